@@ -9,6 +9,7 @@ pub mod Staying
 pub mod SureCalls
 pub mod SureHeads
 pub mod SureParts
+pub mod SureRefs
 pub mod SureSteps
 pub mod TakenBack
 pub mod Told

@@ -101,7 +101,7 @@ is_other k n other = elim (bool_cases (eqb k n)) [ inl e ↦ absurd (other (eqb-
 is_only : (cell : ℕ) (u : Term) → only cell u [] cell ≡ u
 is_only cell u = ap (λ (b : Bool). cond b u (cell_variable cell)) (eq-eqb cell cell refl)
 
-only_other : (cell : ℕ) (u : Term) (k : ℕ) → k ≢ cell → only cell u [] k ≡ cell_variable k
+pub only_other : (cell : ℕ) (u : Term) (k : ℕ) → k ≢ cell → only cell u [] k ≡ cell_variable k
 only_other cell u k other = ap (λ (b : Bool). cond b u (cell_variable k)) (is_other k cell other)
 
 module _ (P : NamedProgram) (later : List Ref) (has : List ℕ) (gives : List Ref) (s : Substitution) (is : IsGiven P later has gives s) where
@@ -185,7 +185,8 @@ module _ (P : NamedProgram) (later : List Ref) (has : List ℕ) (given : List Re
     seen = λ k low. elim (place_of k low) [
       | inl before ↦ subst (IsNoted P later z k) (sym (earlier k before)) (still k before (is.seen k before))
       | inr last ↦ subst (λ (j : ℕ). IsNoted P later z j (get_or (given ++ r ∷ []) j Free)) (sym last)
-          (subst (IsNoted P later z (length given)) (sym (push_last given r)) (inr (moved r t told ∙ ap (λ (u : Term). Some u) (sym (is_noting (length given) t s)))))
+          (subst (IsNoted P later z (length given)) (sym (push_last given r))
+          (inr (moved r t told ∙ ap (λ (u : Term). Some u) (sym (is_noting (length given) t s)))))
     ];
   }
     where

@@ -30,7 +30,7 @@ use Rattle.and_branch_laws.specs.Variables.{cells_from, placed}
 use Rattle.and_branch_laws.specs.Judging.{outside}
 use Rattle.and_determinacy.specs.Seeing.{AgreeUpTo, IsEarly, AreEarly, ref_term, argument_pairs, IsPart, Meets, AreLacking}
 use Rattle.and_determinacy.proofs.SureHeads.{ref_early, value_of_ref}
-use Rattle.and_determinacy.proofs.SureSteps.{frame, meets_so, cell_filled, all_lack, all_early}
+use Rattle.and_determinacy.proofs.SureSteps.{frame, meets_so, cell_filled, whole_lacks, all_lack, all_early}
 
 -- the name that is shown
 abbrev named_in : NodeKind → ℕ
@@ -58,7 +58,7 @@ led_value P row later s grows solves from to (onward cell r end set rest) whole 
     set_agrees P later s cell r solves (grows.set cell r set) (no_half_behind row r end rest whole)
     ∙ led_value P row later s grows solves r end rest whole
 
-part_whole : (P : NamedProgram) (words : ℕ) (r : Ref) → IsPart P words r → is_half r ≡ false
+pub part_whole : (P : NamedProgram) (words : ℕ) (r : Ref) → IsPart P words r → is_half r ≡ false
 part_whole P words Free fits = absurd fits
 part_whole P words (Cell cell) fits = refl
 part_whole P words (Node node base) fits = refl
@@ -83,9 +83,9 @@ module _ (P : NamedProgram) (row : List Ref) where
   led_meets held has given gives from to x begins ends leads meets =
       meets_so P row held has given gives ((ref_term P to, x) ∷ []) ((ref_term P from, x) ∷ []) meets
       (λ early. (ref_early P (length gives) from, early.1, tt))
-      (λ later grows sound s solves met.
+      (λ later grows sound s is met.
       let words : ℕ = length row in
-      let same = led_value P row later s grows solves from to leads (part_whole P words to ends) in
+      let same = led_value P row later s grows is.solves from to leads (part_whole P words to ends) in
       let one : apply s (ref_term P from) ≡ apply s (ref_term P to) =
       same_Some (apply s (ref_term P from)) (apply s (ref_term P to))
       (sym (value_of_ref P (word_at later) s words from begins) ∙ same ∙ value_of_ref P (word_at later) s words to ends) in
@@ -220,16 +220,17 @@ module _ (P : NamedProgram) (fall : AllFall 0 P.skeleton.nodes) where
     filled_by (Skeletons.number z) other solid low was_free new are =
         let is : framed outside (node_term P.skeleton.nodes asked) ≡ number z = ap (framed outside) (number_is asked (Skeletons.number z) other) in
         subst (λ (x : Term). Meets P row held has given gives ((cell_variable cell, x) ∷ [])) (sym is)
-        (cell_filled P row (number z) [] (λ all s each. record { stays = λ c i u. refl }) (λ n each. record { same = λ s z agree. refl })
-        held has given gives cell low was_free new are)
+        (cell_filled P row (number z) held has given gives cell low was_free new
+        (whole_lacks P row (number z) [] (held ++ cell ∷ []) has given gives (λ s each. record { stays = λ c i u. refl })
+        (λ each. record { same = λ s z agree. refl }) are))
     filled_by (Skeletons.compound name hs) other solid low was_free new are =
         let x : Term = framed outside (compound name (term_list (map (nth ts) hs))) in
         let is : framed outside (node_term P.skeleton.nodes asked) ≡ x = ap (framed outside) (compound_is asked name hs other) in
         subst (λ (x : Term). Meets P row held has given gives ((cell_variable cell, x) ∷ [])) (sym is)
-        (cell_filled P row x hs
-        (λ all s each. record { stays = λ c i u. ap (compound name) (all_lack P row all s c u i hs each) })
-        (λ n each. record { same = λ s z agree. ap (compound name) (all_early P row n s z agree hs each) })
-        held has given gives cell low was_free new are)
+        (cell_filled P row x held has given gives cell low was_free new
+        (whole_lacks P row x hs (held ++ cell ∷ []) has given gives
+        (λ s each. record { stays = λ c i u. ap (compound name) (all_lack P row (held ++ cell ∷ []) s c u i hs each) })
+        (λ each. record { same = λ s z agree. ap (compound name) (all_early P row (length gives) s z agree hs each) }) are))
 
     pub filled : ((k : ℕ) → shape_at P.skeleton asked ≢ Skeletons.variable k) → cell < length row → word_at row cell ≡ Free → (Contains held cell → ⊥)
         → AreLacking P row (held ++ cell ∷ []) has given gives (arguments_at P.skeleton asked)

@@ -15,11 +15,11 @@ use Rattle.and_laws.proofs.Substitutions.{then, apply_ground}
 use Rattle.and_cells.specs.Ranges.{NamedProgram}
 use Rattle.and_cells.specs.Rows.{IsSound}
 use Rattle.and_cells.specs.Seen.{word_at, Grows, AreFree}
-use Rattle.and_cells.specs.Meaning.{cell_variable, equations_of}
+use Rattle.and_cells.specs.Meaning.{cell_variable}
 use Rattle.and_branch_laws.specs.Judging.{outside}
 use Rattle.and_branch_laws.proofs.Lists.{all_left}
-use Rattle.and_determinacy.specs.Seeing.{AgreeUpTo, IsEarly, AreEarly, only, LacksEach, ref_term, IsNoted, IsGiven}
-use Rattle.and_determinacy.specs.Seeing.{IsPart, IsUsable, Meets, AreLacking}
+use Rattle.and_determinacy.specs.Seeing.{AgreeUpTo, IsEarly, AreEarly, only, LacksEach, ref_term, IsNoted, LeavesOthers, IsGiven}
+use Rattle.and_determinacy.specs.Seeing.{IsPart, IsUsable, Meets, AreLacking, IsLacking}
 use Rattle.and_determinacy.proofs.SureHeads.{cell_early, ref_early, variable_early, early_later, are_early_later, early_join, early_solves, value_of_ref}
 use Rattle.and_determinacy.proofs.SureHeads.{given_then, becomes, noting, is_noting, noting_agrees, noting_given, fresh_noted}
 
@@ -36,8 +36,13 @@ pub longer_twice : (held mid has one other : List ℕ) → mid ≡ held ++ one �
 longer_twice held mid has one other first second =
     second ∙ ap (λ (xs : List ℕ). xs ++ other) first ∙ append_assoc held one other
 
-among_longer : (held has gained : List ℕ) → has ≡ held ++ gained → (cell : ℕ) → Contains held cell → Contains has cell
+pub among_longer : (held has gained : List ℕ) → has ≡ held ++ gained → (cell : ℕ) → Contains held cell → Contains has cell
 among_longer held has gained longer cell c = subst (λ (xs : List ℕ). Contains xs cell) (sym longer) (Contains-append_left held gained cell c)
+
+-- where others are left of a list, they are of a longer one
+pub leaves_more : (later : List Ref) (held has gained : List ℕ) → has ≡ held ++ gained → (s : Substitution) → LeavesOthers later held s
+    → LeavesOthers later has s
+leaves_more later held has gained longer s leaves cell low was not = leaves cell low was (λ c. not (among_longer held has gained longer cell c))
 
 module _ (P : NamedProgram) (row : List Ref) where
   -- ---- Equations
@@ -82,7 +87,7 @@ module _ (P : NamedProgram) (row : List Ref) where
   -- Other equations are met that follow.
   pub meets_so : (held has : List ℕ) (given gives : List Ref) (es ds : List Equation) → Meets P row held has given gives es
       → (AreEarly (length gives) es → AreEarly (length gives) ds)
-      → ((later : List Ref) → Grows row later → IsSound P later → (s : Substitution) → Solves s (equations_of P later) → Solves s es → Solves s ds)
+      → ((later : List Ref) → Grows row later → IsSound P later → (s : Substitution) → IsGiven P later has gives s → Solves s es → Solves s ds)
       → Meets P row held has given gives ds
   meets_so held has given gives es ds meets early follows = record {
     gained = meets.gained;
@@ -97,7 +102,7 @@ module _ (P : NamedProgram) (row : List Ref) where
           to = on.to;
           is = on.is;
           keeps = on.keeps;
-          solves = follows later grows sound on.to on.is.solves on.solves;
+          solves = follows later grows sound on.to on.is on.solves;
         };
   }
 
@@ -140,7 +145,7 @@ module _ (P : NamedProgram) (row : List Ref) where
     lacks = λ later grows sound settled free s is. (is, λ h c. absurd (contains_none h c));
   }
 
-  lacks_fewer : (held mid gained : List ℕ) → mid ≡ held ++ gained → (t : Term) → LacksEach mid t → LacksEach held t
+  pub lacks_fewer : (held mid gained : List ℕ) → mid ≡ held ++ gained → (t : Term) → LacksEach mid t → LacksEach held t
   lacks_fewer held mid gained longer t lacks = record { stays = λ cell c. lacks.stays cell (among_longer held mid gained longer cell c) }
 
   pub both_lack : (held mid has : List ℕ) (given middle gives : List Ref) (hs : List ℕ) (h : ℕ) → AreLacking P row held mid given middle hs
@@ -269,40 +274,50 @@ module _ (P : NamedProgram) (row : List Ref) where
       ((each h (contains_first h hs)).same s z agree)
       ∙ ap (λ (us : Terms). more (apply z (head_term h)) us) (all_early n s z agree hs (λ k i. each k (contains_more h k hs i)))
 
-  -- The cell becomes what the arguments make: these lack it, as all that is held.
-  module _ (x : Term) (hs : List ℕ)
-      (whole : (held : List ℕ) (s : Substitution) → ((h : ℕ) → Contains hs h → LacksEach held (apply s (head_term h))) → LacksEach held (apply s x))
-      (early : (n : ℕ) → ((h : ℕ) → Contains hs h → IsEarly n (head_term h)) → IsEarly n x) where
-    pub cell_filled : (held has : List ℕ) (given gives : List Ref) (cell : ℕ) → cell < length row → word_at row cell ≡ Free
-        → (Contains held cell → ⊥) → AreLacking P row (held ++ cell ∷ []) has given gives hs → Meets P row held has given gives ((cell_variable cell, x) ∷ [])
-    cell_filled held has given gives cell low was_free new are =
-        let mid : List ℕ = held ++ cell ∷ [] in
-        let there : Contains mid cell = Contains-append_right held (cell ∷ []) cell (contains_first cell []) in
-        let among : Contains has cell = among_longer mid has are.gained are.longer cell there in
-        record {
-          gained = (cell ∷ []) ++ are.gained;
-          longer = longer_twice held mid has (cell ∷ []) are.gained refl are.longer;
-          taller = are.taller;
-          free = λ all. are.free (All-push (λ (c : ℕ). word_at row c ≡ Free) held cell all was_free);
-          usable = are.usable;
-          early = (cell_early (length gives) cell, early (length gives) are.early, tt);
-          goes = λ later grows sound settled free s is.
-              let long = grows.longer in
-              let begun : IsGiven P later mid given s = record {
-                solves = is.solves;
-                others = λ other under was not. is.others other under was (λ c. not (Contains-append_left held (cell ∷ []) other c));
-                unseen = is.unseen;
-                seen = is.seen;
-              } in
-              let (now, lacks) = are.lacks later grows sound settled free s begun in
-              let u : Term = apply s x in
-              let was : s [] cell ≡ cell_variable cell =
-              is.others cell (omega arith) (All-contains (λ (c : ℕ). word_at later c ≡ Free) has cell free among) new in
-              let stays : LacksEach mid u = whole mid s lacks in
-              record {
-                to = then s (only cell u);
-                is = given_then P later has gives s now cell u among;
-                keeps = λ ds early_too solves. solves_then s (only cell u) ds solves;
-                solves = (becomes s cell x mid was there stays, tt);
-              };
-        }
+  -- The cell becomes a term that lacks it, as all that is held.
+  pub cell_filled : (x : Term) (held has : List ℕ) (given gives : List Ref) (cell : ℕ) → cell < length row → word_at row cell ≡ Free
+      → (Contains held cell → ⊥) → IsLacking P row (held ++ cell ∷ []) has given gives x → Meets P row held has given gives ((cell_variable cell, x) ∷ [])
+  cell_filled x held has given gives cell low was_free new are =
+      let mid : List ℕ = held ++ cell ∷ [] in
+      let there : Contains mid cell = Contains-append_right held (cell ∷ []) cell (contains_first cell []) in
+      let among : Contains has cell = among_longer mid has are.gained are.longer cell there in
+      record {
+        gained = (cell ∷ []) ++ are.gained;
+        longer = longer_twice held mid has (cell ∷ []) are.gained refl are.longer;
+        taller = are.taller;
+        free = λ all. are.free (All-push (λ (c : ℕ). word_at row c ≡ Free) held cell all was_free);
+        usable = are.usable;
+        early = (cell_early (length gives) cell, are.early, tt);
+        goes = λ later grows sound settled free s is.
+            let long = grows.longer in
+            let begun : IsGiven P later mid given s = record {
+              solves = is.solves;
+              others = leaves_more later held mid (cell ∷ []) refl s is.others;
+              unseen = is.unseen;
+              seen = is.seen;
+            } in
+            let (now, lacks) = are.lacks later grows sound settled free s begun in
+            let was : s [] cell ≡ cell_variable cell =
+            is.others cell (omega arith) (All-contains (λ (c : ℕ). word_at later c ≡ Free) has cell free among) new in
+            record {
+              to = then s (only cell (apply s x));
+              is = given_then P later has gives s now cell (apply s x) among;
+              keeps = λ ds early_too solves. solves_then s (only cell (apply s x)) ds solves;
+              solves = (becomes s cell x mid was there lacks, tt);
+            };
+      }
+
+  -- What the arguments make lacks what each of them lacks.
+  pub whole_lacks : (x : Term) (hs : List ℕ) (held has : List ℕ) (given gives : List Ref)
+      → ((s : Substitution) → ((h : ℕ) → Contains hs h → LacksEach held (apply s (head_term h))) → LacksEach held (apply s x))
+      → (((h : ℕ) → Contains hs h → IsEarly (length gives) (head_term h)) → IsEarly (length gives) x)
+      → AreLacking P row held has given gives hs → IsLacking P row held has given gives x
+  whole_lacks x hs held has given gives whole early are = record {
+    gained = are.gained;
+    longer = are.longer;
+    taller = are.taller;
+    free = are.free;
+    usable = are.usable;
+    early = early are.early;
+    lacks = λ later grows sound settled free s is. let both = are.lacks later grows sound settled free s is in (both.0, whole s both.1);
+  }

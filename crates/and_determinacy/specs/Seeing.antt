@@ -1,4 +1,5 @@
--- What is seen of a call and a clause's head without a trial: cells of the call and variables of the head are given terms, one after the other.
+-- What is seen of a call and a clause's head without a trial: cells of the call and variables of the head are given
+-- terms, one after the other.
 use Rattle.std.specs.Prelude.{ℕ, ◌≡◌, ◌<◌, ◌≤◌, ◌++◌, ◌⊎◌, ◌∷◌, [], List, length, get_or, Some, All, Contains, cond, eqb}
 use Rattle.and_model.specs.Terms.{Term, Substitution, variable, apply, framed}
 use Rattle.and_model.specs.Solutions.{Equation, Solves}
@@ -19,7 +20,8 @@ use Rattle.and_branch_laws.specs.Variables.{placed}
 abbrev pub AgreeUpTo : ℕ → Substitution → Substitution → Type 0
 AgreeUpTo n s z = ((cell : ℕ) → s [] cell ≡ z [] cell) × ((k : ℕ) → k < n → s outside k ≡ z outside k)
 
--- The term speaks of cells and of so many variables of the frame outside: what gives these the same makes of it the same.
+-- The term speaks of cells and of so many variables of the frame outside: what gives these the same makes of it the
+-- same.
 pub record IsEarly (n : ℕ) (t : Term) : Type 0 where
   pub same : (s z : Substitution) → AgreeUpTo n s z → apply s t ≡ apply z t
 
@@ -63,11 +65,13 @@ IsNoted P later s k r =
 -- Free cells but these are as they were.
 abbrev pub LeavesOthers : (later : List Ref) → (held : List ℕ) → Substitution → Type 0
 LeavesOthers later held s =
-    (cell : ℕ) → cell < length later → word_at later cell ≡ Free → (Contains held cell → ⊥) → s [] cell ≡ cell_variable cell
+    (cell : ℕ) → cell < length later → word_at later cell ≡ Free → (Contains held cell → ⊥)
+    → s [] cell ≡ cell_variable cell
 
 -- The substitution solves the row. It gives something to these of the free cells at most, and the first variables of
 -- the head are what was noted.
-pub record IsGiven (P : NamedProgram) (later : List Ref) (held : List ℕ) (given : List Ref) (s : Substitution) : Type 0 where
+pub record IsGiven (P : NamedProgram) (later : List Ref) (held : List ℕ) (given : List Ref)
+    (s : Substitution) : Type 0 where
   pub solves : Solves s (equations_of P later)
   pub others : LeavesOthers later held s
   pub unseen : (k : ℕ) → length given ≤ k → s outside k ≡ variable outside k
@@ -99,8 +103,9 @@ IsPart P words (Half bits) = ⊥
 abbrev pub IsUsable : NamedProgram → (words : ℕ) → Ref → Type 0
 IsUsable P words r = (r ≡ Free) ⊎ IsPart P words r
 
--- These equations are met by what more was given.
-pub record Meets (P : NamedProgram) (row : List Ref) (held has : List ℕ) (given gives : List Ref) (es : List Equation) : Type 0 where
+-- Where these were held and noted before and those after it, the equations are met by what was given in between.
+pub record Meets (P : NamedProgram) (row : List Ref) (held has : List ℕ) (given gives : List Ref)
+    (es : List Equation) : Type 0 where
   pub gained : List ℕ
   pub longer : has ≡ held ++ gained
   pub taller : length given ≤ length gives
@@ -110,8 +115,9 @@ pub record Meets (P : NamedProgram) (row : List Ref) (held has : List ℕ) (give
   pub goes : WhileFree P row has (λ later. (s : Substitution) → IsGiven P later held given s
       → GoesOn P later has gives (length given) s es)
 
--- Terms of the head lack the cells that were held, and what was given is noted of more variables.
-pub record AreLacking (P : NamedProgram) (row : List Ref) (held has : List ℕ) (given gives : List Ref) (heads : List ℕ) : Type 0 where
+-- These terms of the head lack the cells that were held before, and variables were noted that are themselves.
+pub record AreLacking (P : NamedProgram) (row : List Ref) (held has : List ℕ) (given gives : List Ref)
+    (heads : List ℕ) : Type 0 where
   pub gained : List ℕ
   pub longer : has ≡ held ++ gained
   pub taller : length given ≤ length gives
@@ -121,3 +127,23 @@ pub record AreLacking (P : NamedProgram) (row : List Ref) (held has : List ℕ) 
   pub lacks : WhileFree P row has (λ later. (s : Substitution) → IsGiven P later held given s
       → IsGiven P later has gives s
       × ((h : ℕ) → Contains heads h → LacksEach held (apply s (framed outside (node_term P.skeleton.nodes h)))))
+
+-- The same of one term.
+pub record IsLacking (P : NamedProgram) (row : List Ref) (held has : List ℕ) (given gives : List Ref)
+    (x : Term) : Type 0 where
+  pub gained : List ℕ
+  pub longer : has ≡ held ++ gained
+  pub taller : length given ≤ length gives
+  pub free : AreFree row held → AreFree row has
+  pub usable : All (IsUsable P (length row)) given → All (IsUsable P (length row)) gives
+  pub early : IsEarly (length gives) x
+  pub lacks : WhileFree P row has (λ later. (s : Substitution) → IsGiven P later held given s
+      → IsGiven P later has gives s × LacksEach held (apply s x))
+
+-- The terms of references lack the cells that were held, and nothing was given.
+pub record HoldNone (P : NamedProgram) (row : List Ref) (held has : List ℕ) (rs : List Ref) : Type 0 where
+  pub gained : List ℕ
+  pub longer : has ≡ held ++ gained
+  pub free : AreFree row held → AreFree row has
+  pub lacks : WhileFree P row has (λ later. (s : Substitution) → Solves s (equations_of P later)
+      → LeavesOthers later held s → (r : Ref) → Contains rs r → LacksEach held (apply s (ref_term P r)))

@@ -1,6 +1,9 @@
 //! Clauses that are seen to fit a call, without a trial.
+//!
+//! Arguments of the call and of the head are gone over together, and what would be given to free cells of the call and
+//! to variables of the head is noted; nothing is set. Where more than a look is needed, it is given up.
 
-ghost use Rattle.std.specs.Prelude.{◌≡◌, ◌≢◌, ◌<◌, ◌^◌, ◌++◌, ◌∷◌, ◌⊎◌, ℕ, [], Ok, All, Contains, true, length};
+ghost use Rattle.std.specs.Prelude.{◌≡◌, ◌≢◌, ◌<◌, ◌^◌, ◌++◌, ◌∷◌, ◌⊎◌, ℕ, List, [], Ok, All, Contains, true, false, length};
 ghost use Rattle.and_model.specs.Candidates.{Candidate};
 ghost use Rattle.and_model.specs.Programs.{Of};
 ghost use Rattle.and_model.specs.Terms.{framed, variable};
@@ -17,7 +20,7 @@ ghost use Rattle.and_cells.specs.Seen.{LeadsTo};
 ghost use Rattle.and_branch_laws.specs.Judging.{outside};
 ghost use Rattle.and_branch_laws.specs.Variables.{placed};
 ghost use Rattle.and_guards.specs.Guards.{CanBeRead};
-ghost use Rattle.and_determinacy.specs.Seeing.{Meets, AreLacking, IsPart, IsUsable, argument_pairs, ref_term};
+ghost use Rattle.and_determinacy.specs.Seeing.{Meets, AreLacking, HoldNone, IsPart, IsUsable, argument_pairs, ref_term};
 ghost use Rattle.and_determinacy.specs.Watching.{StaysWhile};
 
 use crate::rests::is_another;
@@ -27,8 +30,8 @@ use and_model::{ClauseNo, NodeNo, Ref};
 use and_program::{Loaded, NodeKind};
 use std::alloc::AllocError;
 
-/// Whether a clause is seen to be a candidate of the call whose node is given, in the frame at the base, without a trial:
-/// `false` says nothing. On a list that was empty are then the cells on which this rests. An error is want of memory.
+/// Whether a clause is seen to be a candidate of the call whose node is given, in the frame at the base: `false` says
+/// nothing. On a list that was empty are then the cells on which this rests. An error is want of memory.
 #[inline(always)]
 pub(crate) fn is_seen<N: Naming>(
     loaded: &Loaded,
@@ -254,6 +257,7 @@ fn constant_meets<N: Naming>(
     requires in_range { IsPart N.program (length cells.now) part }
     requires there { asked.0 < length (skeleton_of loaded.now).nodes }
     requires solid { (k : ℕ) → shape_at N.program.skeleton asked.0 ≢ Skeletons.variable k }
+    requires usable { All (IsUsable N.program (length cells.now)) given.old.items }
     ensures { result ≡ Ok true → Meets N.program cells.now held.old.items held.new.items given.old.items given.new.items
         ((ref_term N.program part, framed outside (node_term N.program.skeleton.nodes asked.0)) ∷ []) }
 {
@@ -284,7 +288,8 @@ fn are_one_constant(loaded: &Loaded, node: NodeNo, other: NodeNo) -> bool
     count_in(wanted) == 0
 }
 
-/// Notes that a variable of the head, seen for the first time, is given a part of the call.
+/// Notes that a variable of the head is given a part of the call, where it is seen for the first time; else whether
+/// that part is seen to be made one with what was noted.
 #[inline(always)]
 fn take<N: Naming>(
     loaded: &Loaded,
@@ -296,16 +301,198 @@ fn take<N: Naming>(
     given: &mut Vec<Ref>,
 ) -> Result<bool, AllocError>
     requires program { N.program ≡ named loaded.now }
+    requires falls { AllFall 0 N.program.skeleton.nodes }
     requires in_range { IsPart N.program (length cells.now) part }
     requires asked { node_term N.program.skeleton.nodes asked.0 ≡ variable [] number }
+    requires usable { All (IsUsable N.program (length cells.now)) given.old.items }
     ensures { result ≡ Ok true → Meets N.program cells.now held.old.items held.new.items given.old.items given.new.items
         ((ref_term N.program part, framed outside (node_term N.program.skeleton.nodes asked.0)) ∷ []) }
 {
-    if number as usize == given.len() {
+    let place = number as usize;
+    if place == given.len() {
         given.push(part)?;
         return Ok(true);
     }
-    Ok(false)
+    if place > given.len() {
+        return Ok(false);
+    }
+    let noted = given[place];
+    if is_itself(noted) {
+        return Ok(false);
+    }
+    join(loaded, cells, part, noted, held)
+}
+
+/// Whether a variable of which this is noted is itself.
+#[inline(always)]
+fn is_itself(noted: Ref) -> bool
+    ensures itself { result ≡ true → noted ≡ Ref.Free }
+    ensures another { result ≡ false → noted ≢ Ref.Free }
+{
+    matches!(noted, Ref::Free)
+}
+
+/// Whether two references are seen to be made one: one of them leads to a free cell, which is none of those on the list
+/// and is given the other.
+fn join<N: Naming>(
+    loaded: &Loaded,
+    cells: &PlainCells<N>,
+    part: Ref,
+    other: Ref,
+    held: &mut Vec<u32>,
+) -> Result<bool, AllocError>
+    requires program { N.program ≡ named loaded.now }
+    requires falls { AllFall 0 N.program.skeleton.nodes }
+    requires part { IsPart N.program (length cells.now) part }
+    requires other { IsPart N.program (length cells.now) other }
+    ensures { result ≡ Ok true → (given : List Ref)
+        → Meets N.program cells.now held.old.items held.new.items given given
+        ((ref_term N.program part, ref_term N.program other) ∷ []) }
+{
+    match end_of(cells, part) {
+        Ref::Cell(cell) => give(loaded, cells, cell, other, held),
+        Ref::Node { node: _, base: _ } => give_end(loaded, cells, other, part, held),
+        Ref::Number(_) => give_end(loaded, cells, other, part, held),
+        Ref::Free => Ok(false),
+        Ref::Half(_) => Ok(false),
+    }
+}
+
+/// The same where the first alone may lead to such a cell.
+#[inline(always)]
+fn give_end<N: Naming>(
+    loaded: &Loaded,
+    cells: &PlainCells<N>,
+    part: Ref,
+    other: Ref,
+    held: &mut Vec<u32>,
+) -> Result<bool, AllocError>
+    requires program { N.program ≡ named loaded.now }
+    requires falls { AllFall 0 N.program.skeleton.nodes }
+    requires part { IsPart N.program (length cells.now) part }
+    requires other { IsPart N.program (length cells.now) other }
+    ensures { result ≡ Ok true → (given : List Ref)
+        → Meets N.program cells.now held.old.items held.new.items given given
+        ((ref_term N.program part, ref_term N.program other) ∷ []) }
+{
+    match end_of(cells, part) {
+        Ref::Cell(cell) => give(loaded, cells, cell, other, held),
+        Ref::Node { node: _, base: _ } => Ok(false),
+        Ref::Number(_) => Ok(false),
+        Ref::Free => Ok(false),
+        Ref::Half(_) => Ok(false),
+    }
+}
+
+/// Whether a cell is free, none of those on the list, and not held by what it is to be given. It is then on the list.
+#[inline(always)]
+fn give<N: Naming>(
+    loaded: &Loaded,
+    cells: &PlainCells<N>,
+    cell: u32,
+    other: Ref,
+    held: &mut Vec<u32>,
+) -> Result<bool, AllocError>
+    requires program { N.program ≡ named loaded.now }
+    requires falls { AllFall 0 N.program.skeleton.nodes }
+    requires cell { cell < length cells.now }
+    requires other { IsPart N.program (length cells.now) other }
+    ensures { result ≡ Ok true → (given : List Ref)
+        → Meets N.program cells.now held.old.items held.new.items given given
+        ((cell_variable cell, ref_term N.program other) ∷ []) }
+{
+    let another = is_another(cells, cell, held);
+    if !another {
+        return Ok(false);
+    }
+    held.push(cell)?;
+    holds_none(loaded, cells, other, held)
+}
+
+/// Whether the term of a reference is seen to hold none of the cells on the list. The free cells that it holds are then
+/// on it too.
+#[inline(always)]
+fn holds_none<N: Naming>(
+    loaded: &Loaded,
+    cells: &PlainCells<N>,
+    part: Ref,
+    held: &mut Vec<u32>,
+) -> Result<bool, AllocError>
+    requires program { N.program ≡ named loaded.now }
+    requires falls { AllFall 0 N.program.skeleton.nodes }
+    requires part { IsPart N.program (length cells.now) part }
+    ensures { result ≡ Ok true → HoldNone N.program cells.now held.old.items held.new.items (part ∷ []) }
+{
+    match end_of(cells, part) {
+        Ref::Cell(cell) => hold(cells, cell, held),
+        Ref::Node { node, base } => parts_hold_none(loaded, cells, node, base, held),
+        Ref::Number(_) => Ok(true),
+        Ref::Free => Ok(false),
+        Ref::Half(_) => Ok(false),
+    }
+}
+
+/// Whether so do the parts of a structure, which are free cells and constants.
+#[inline(always)]
+fn parts_hold_none<N: Naming>(
+    loaded: &Loaded,
+    cells: &PlainCells<N>,
+    node: NodeNo,
+    base: u32,
+    held: &mut Vec<u32>,
+) -> Result<bool, AllocError>
+    requires program { N.program ≡ named loaded.now }
+    requires falls { AllFall 0 N.program.skeleton.nodes }
+    requires in_range { IsInRange N.program (length cells.now) (Ref.Node node base) }
+    ensures { result ≡ Ok true → HoldNone N.program cells.now held.old.items held.new.items (Ref.Node node base ∷ []) }
+{
+    for place in 0..count_in(loaded.kind(node)) {
+        let part = loaded.resolve(loaded.argument(node, place), base);
+        let none = part_holds_none(loaded, cells, part, held)?;
+        if !none {
+            return Ok(false);
+        }
+    }
+    Ok(true)
+}
+
+/// Whether one of them does.
+#[inline(always)]
+fn part_holds_none<N: Naming>(
+    loaded: &Loaded,
+    cells: &PlainCells<N>,
+    part: Ref,
+    held: &mut Vec<u32>,
+) -> Result<bool, AllocError>
+    requires program { N.program ≡ named loaded.now }
+    requires falls { AllFall 0 N.program.skeleton.nodes }
+    requires part { IsPart N.program (length cells.now) part }
+    ensures { result ≡ Ok true → HoldNone N.program cells.now held.old.items held.new.items (part ∷ []) }
+{
+    match end_of(cells, part) {
+        Ref::Cell(cell) => hold(cells, cell, held),
+        Ref::Node { node, base: _ } => Ok(count_in(loaded.kind(node)) == 0),
+        Ref::Number(_) => Ok(true),
+        Ref::Free => Ok(false),
+        Ref::Half(_) => Ok(false),
+    }
+}
+
+/// Whether a cell is free and none of those on the list. It is then on it.
+#[inline(always)]
+fn hold<N: Naming>(
+    cells: &PlainCells<N>,
+    cell: u32,
+    held: &mut Vec<u32>,
+) -> Result<bool, AllocError>
+    requires { cell < length cells.now }
+    ensures { result ≡ Ok true → HoldNone N.program cells.now held.old.items held.new.items (Ref.Cell cell ∷ []) }
+{
+    let another = is_another(cells, cell, held);
+    if another {
+        held.push(cell)?;
+    }
+    Ok(another)
 }
 
 /// Fills a free cell of the call, which is none of those on the list, by a term of the head that is no variable, and
@@ -324,6 +511,7 @@ fn fill<N: Naming>(
     requires in_range { cell < length cells.now }
     requires there { asked.0 < length (skeleton_of loaded.now).nodes }
     requires solid { (k : ℕ) → shape_at N.program.skeleton asked.0 ≢ Skeletons.variable k }
+    requires usable { All (IsUsable N.program (length cells.now)) given.old.items }
     ensures { result ≡ Ok true → Meets N.program cells.now held.old.items held.new.items given.old.items given.new.items
         ((cell_variable cell, framed outside (node_term N.program.skeleton.nodes asked.0)) ∷ []) }
 {
@@ -347,6 +535,7 @@ fn parts_lack<N: Naming>(
     requires program { N.program ≡ named loaded.now }
     requires falls { AllFall 0 N.program.skeleton.nodes }
     requires there { asked.0 < length (skeleton_of loaded.now).nodes }
+    requires usable { All (IsUsable N.program (length cells.now)) given.old.items }
     ensures { result ≡ Ok true → AreLacking N.program cells.now held.old.items held.new.items given.old.items
         given.new.items (arguments_at N.program.skeleton asked.0) }
 {
@@ -371,6 +560,7 @@ fn part_lacks<N: Naming>(
     requires program { N.program ≡ named loaded.now }
     requires falls { AllFall 0 N.program.skeleton.nodes }
     requires there { asked.0 < length (skeleton_of loaded.now).nodes }
+    requires usable { All (IsUsable N.program (length cells.now)) given.old.items }
     ensures { result ≡ Ok true → AreLacking N.program cells.now held.old.items held.new.items given.old.items
         given.new.items (asked.0 ∷ []) }
 {
@@ -381,7 +571,7 @@ fn part_lacks<N: Naming>(
     }
 }
 
-/// Whether what a variable of the head was given is, if it was given anything.
+/// Whether a variable of the head is, which is noted as itself where it is seen for the first time.
 #[inline(always)]
 fn variable_lacks<N: Naming>(
     loaded: &Loaded,
@@ -392,15 +582,25 @@ fn variable_lacks<N: Naming>(
     given: &mut Vec<Ref>,
 ) -> Result<bool, AllocError>
     requires program { N.program ≡ named loaded.now }
+    requires falls { AllFall 0 N.program.skeleton.nodes }
     requires asked { node_term N.program.skeleton.nodes asked.0 ≡ variable [] number }
+    requires usable { All (IsUsable N.program (length cells.now)) given.old.items }
     ensures { result ≡ Ok true → AreLacking N.program cells.now held.old.items held.new.items given.old.items
         given.new.items (asked.0 ∷ []) }
 {
-    if number as usize == given.len() {
+    let place = number as usize;
+    if place == given.len() {
         given.push(Ref::Free)?;
         return Ok(true);
     }
-    Ok(false)
+    if place > given.len() {
+        return Ok(false);
+    }
+    let noted = given[place];
+    if is_itself(noted) {
+        return Ok(true);
+    }
+    holds_none(loaded, cells, noted, held)
 }
 
 /// What a reference leads to: a node, a number, or a cell that is set to no reference.
