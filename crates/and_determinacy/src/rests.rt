@@ -26,6 +26,42 @@ use and_program::Loaded;
 use std::alloc::{AllocError, Global};
 use std::marker::Model;
 
+/// So many looks at a clause are passed over at most, after others that told nothing.
+const MOST_PASSED: u32 = 7;
+
+/// A clause of which a look told nothing, and how many next looks at it are passed over: more each time, since clauses
+/// that are not seen to fit mostly are not the next time either, and then a look is lost.
+#[derive(Clone, Copy, PartialEq, Eq, Debug)]
+struct Doubt {
+    clause: ClauseNo,
+    most: u32,
+    left: u32,
+}
+
+impl Doubt {
+    /// Whether a look at the clause is passed over, of which then one fewer is.
+    #[inline(always)]
+    fn passes_over(&mut self, clause: ClauseNo) -> bool {
+        if self.left == 0 || self.clause.0 != clause.0 {
+            return false;
+        }
+        self.left -= 1;
+        true
+    }
+
+    /// Another look at the clause told nothing.
+    fn grows(&mut self, clause: ClauseNo) {
+        if self.clause.0 != clause.0 {
+            self.clause = clause;
+            self.most = 0;
+        }
+        if self.most < MOST_PASSED {
+            self.most = 2 * self.most + 1;
+        }
+        self.left = self.most;
+    }
+}
+
 /// The cells on which clauses rest that were tried and fitted, where these are told: they are not where
 /// they are too many, or where a clause has a guard.
 pub(crate) struct Rests {
@@ -33,6 +69,7 @@ pub(crate) struct Rests {
     are_told: bool,
     visits: Vec<Ref>,
     held: Vec<u32>,
+    doubt: Doubt,
 }
 
 // By hand, so that it is proved once, here.
@@ -43,6 +80,7 @@ impl Drop for Rests {
             are_told: _,
             visits: _,
             held: _,
+            doubt: _,
         } = self;
     }
 }
@@ -66,6 +104,11 @@ impl Rests {
             are_told: false,
             visits: Vec::new(alloc),
             held: Vec::new(alloc),
+            doubt: Doubt {
+                clause: ClauseNo(0),
+                most: 0,
+                left: 0,
+            },
         }
     }
 
@@ -138,6 +181,9 @@ impl Rests {
             StaysWhile N.program cells.now base (node_term N.program.skeleton.nodes node.0) has clause.0) }
         ensures same { result ≡ Ok false → self.new ≡ self.old }
     {
+        if self.doubt.passes_over(clause) {
+            return Ok(false);
+        }
         self.held.clear();
         self.visits.clear();
         let seen = is_seen(
@@ -150,6 +196,7 @@ impl Rests {
             &mut self.visits,
         )?;
         if !seen {
+            self.doubt.grows(clause);
             return Ok(false);
         }
         if !self.are_told {
