@@ -1,0 +1,101 @@
+-- Words that name what lies in frames.
+use Rattle.std.proofs.Common.{ℕ, suc, ◌+◌, ◌≡◌, List, [], ◌∷◌, map, sym, ap, ◌∙◌, subst, inl, inr, Contains}
+use Rattle.std.specs.Prelude.{ℤ}
+use Rattle.std.proofs.lemmas.Bool.{cases_eq}
+use Rattle.std.proofs.lemmas.List.Elements.{Contains-append_left, Contains-append_right}
+use Rattle.and_model.specs.Terms.{Path, Term, variables_of, variables_in}
+use Rattle.and_model.specs.Store.{Frame}
+use Rattle.and_model.specs.declared.reference.Ref.{Ref}
+use Rattle.and_model.specs.declared.reference.Ref.TheVariants.{Free, Cell, Node, Number, Half}
+use Rattle.and_program.specs.Skeletons
+use Rattle.and_program.specs.Skeletons.{Shape, term_list, nth, shape_term, terms_behind, node_term, AllFall}
+use Rattle.and_program.specs.Loaded.{shape_at}
+use Rattle.and_program.specs.Shown.{arguments_in, resolved}
+use Rattle.and_laws.proofs.Ordered.{contains_cases, contains_none}
+use Rattle.and_cells.specs.Ranges.{NamedProgram}
+use Rattle.and_cells.specs.Parts.{part_at, parts_of}
+use Rattle.and_cells.specs.Seen.{word_at}
+use Rattle.and_cell_laws.proofs.Images.{contains_origin}
+use Rattle.and_cell_laws.proofs.Structures.{node_term_shape}
+use Rattle.and_branch_laws.specs.Settling.{widened, IsWritten}
+use Rattle.and_branch_laws.proofs.Rows.{widened_words}
+use Rattle.and_moved_laws.specs.KeptFrames.{IsInFrame, NamesFrame, NamesFrames}
+
+-- ---- Nodes
+
+-- The frame has the node's base and the cells of its variables.
+abbrev pub HoldsNode : NamedProgram → Frame → (base node : ℕ) → Type 0
+HoldsNode P f base node = (f.base ≡ base) × IsInFrame base f
+    × ((v : Path × ℕ) → Contains (variables_of (node_term P.skeleton.nodes node)) v → IsInFrame (base + 1 + v.1) f)
+
+resolved_named : (P : NamedProgram) (frames : List Frame) (f : Frame) → Contains frames f → (base node : ℕ) → HoldsNode P f base node → (s : Shape)
+    → NamesFrame P frames (resolved s (record { 0 = node }) base)
+resolved_named P frames f h base node x (Skeletons.variable k) = tt
+resolved_named P frames f h base node x (Skeletons.number z) = (f, h, x.0, x.1, x.2)
+resolved_named P frames f h base node x (Skeletons.compound c ns) = (f, h, x.0, x.1, x.2)
+
+-- A node that is found in such a frame names what lies in it,
+pub node_named : (P : NamedProgram) (frames : List Frame) (f : Frame) → Contains frames f → (base node : ℕ) → f.base ≡ base → IsInFrame base f
+    → ((v : Path × ℕ) → Contains (variables_of (node_term P.skeleton.nodes node)) v → IsInFrame (base + 1 + v.1) f)
+    → NamesFrame P frames (part_at P base node)
+node_named P frames f h base node begins inside cells = resolved_named P frames f h base node (begins, inside, cells) (shape_at P.skeleton node)
+
+-- a variable of an argument is one of the structure's
+argument_variable : (ts : List Term) (ns : List ℕ) (n : ℕ) (v : Path × ℕ) → Contains ns n → Contains (variables_of (nth ts n)) v
+    → Contains (variables_in (term_list (map (nth ts) ns))) v
+argument_variable ts [] n v h c = absurd (contains_none n h)
+argument_variable ts (m ∷ ns) n v h c = elim (contains_cases m n ns h) [
+  | inl e ↦ Contains-append_left (variables_of (nth ts m)) (variables_in (term_list (map (nth ts) ns))) v
+      (subst (λ (x : ℕ). Contains (variables_of (nth ts x)) v) e c)
+  | inr i ↦ Contains-append_right (variables_of (nth ts m)) (variables_in (term_list (map (nth ts) ns))) v (argument_variable ts ns n v i c)
+]
+
+shape_variable : (ts : List Term) (s : Shape) (n : ℕ) (v : Path × ℕ) → Contains (arguments_in s) n → Contains (variables_of (nth ts n)) v
+    → Contains (variables_of (shape_term ts s)) v
+shape_variable ts (Skeletons.variable k) n v h c = absurd (contains_none n h)
+shape_variable ts (Skeletons.number z) n v h c = absurd (contains_none n h)
+shape_variable ts (Skeletons.compound name ns) n v h c = argument_variable ts ns n v h c
+
+-- and so do the parts of what does.
+pub part_named : (P : NamedProgram) (frames : List Frame) (r q : Ref) → AllFall 0 P.skeleton.nodes → NamesFrame P frames r → Contains (parts_of P r) q
+    → NamesFrame P frames q
+part_named P frames Free q fall n c = absurd (contains_none q c)
+part_named P frames (Cell cell) q fall n c = absurd (contains_none q c)
+part_named P frames (Node node base) q fall n c =
+    let s : Shape = shape_at P.skeleton node.0 in
+    let (m, there, from) = contains_origin (part_at P base) (arguments_in s) q c in
+    let ts : List Term = terms_behind [] P.skeleton.nodes in
+    let term : node_term P.skeleton.nodes node.0 ≡ shape_term ts s = node_term_shape P.skeleton.nodes node.0 fall in
+    subst (λ (x : Ref). NamesFrame P frames x) (sym from)
+    (node_named P frames n.0 n.1 base m n.2 n.3 (λ v i.
+    n.4 v (subst (λ (t : Term). Contains (variables_of t) v) (sym term) (shape_variable ts s m v there i))))
+part_named P frames (Number pair) q fall n c = absurd (contains_none q c)
+part_named P frames (Half bits) q fall n c = absurd (contains_none q c)
+
+-- ---- Rows
+
+-- What lies in some frames lies in more.
+more_named : (P : NamedProgram) (frames more : List Frame) → ((f : Frame) → Contains frames f → Contains more f) → (r : Ref)
+    → NamesFrame P frames r → NamesFrame P more r
+more_named P frames more in_more Free n = tt
+more_named P frames more in_more (Cell cell) n = tt
+more_named P frames more in_more (Node node base) n = (n.0, in_more n.0 n.1, n.2, n.3, n.4)
+more_named P frames more in_more (Number pair) n = (n.0, in_more n.0 n.1, n.2, n.3)
+more_named P frames more in_more (Half bits) n = tt
+
+pub more_frames : (P : NamedProgram) (frames more : List Frame) (row : List Ref) → ((f : Frame) → Contains frames f → Contains more f)
+    → NamesFrames P frames row → NamesFrames P more row
+more_frames P frames more row in_more names place = more_named P frames more in_more (word_at row place) (names place)
+
+pub widened_names : (P : NamedProgram) (frames : List Frame) (row : List Ref) (by : ℕ) → NamesFrames P frames row → NamesFrames P frames (widened row by)
+widened_names P frames row by names place = subst (λ (r : Ref). NamesFrame P frames r) (sym (widened_words row by place)) (names place)
+
+pub written_names : (P : NamedProgram) (frames : List Frame) (row written : List Ref) (pair : ℕ) (z : ℤ) → IsWritten row written pair z
+    → NamesFrames P frames row → NamesFrames P frames written
+written_names P frames row written pair z x names place = elim (cases_eq place pair) [
+  | inl e ↦ subst (λ (r : Ref). NamesFrame P frames r) (sym (ap (word_at written) e ∙ x.high)) tt
+  | inr one ↦ elim (cases_eq place (suc pair)) [
+    | inl e ↦ subst (λ (r : Ref). NamesFrame P frames r) (sym (ap (word_at written) e ∙ x.low)) tt
+    | inr other ↦ subst (λ (r : Ref). NamesFrame P frames r) (sym (x.others place one other)) (names place)
+  ]
+]

@@ -1,0 +1,6 @@
+use Rattle.and_moved_laws.proofs.Judging
+use Rattle.and_moved_laws.proofs.candidates_of_parts.Goals as goal
+
+pub returns : goal.returns
+returns c = λ P at part whole g n m sound settled o.
+    (Judging.candidate_there P at part whole m g o sound settled n, Judging.candidate_here P at part whole m g o n)

@@ -1,0 +1,17 @@
+use Rattle.and_moved_laws.proofs.Naming
+use Rattle.and_moved_laws.proofs.naming_frames.Goals as goal
+
+pub returns-clause-node : goal.returns-clause-node
+returns-clause-node c = λ P frames f base node h begins inside cells. Naming.node_named P frames f h base node begins inside cells
+
+pub returns-clause-parts : goal.returns-clause-parts
+returns-clause-parts c = λ P frames r q fall names h. Naming.part_named P frames r q fall names h
+
+pub returns-clause-more : goal.returns-clause-more
+returns-clause-more c = λ P frames others row in_more names. Naming.more_frames P frames others row in_more names
+
+pub returns-clause-behind : goal.returns-clause-behind
+returns-clause-behind c = λ P frames row by names. Naming.widened_names P frames row by names
+
+pub returns-clause-written : goal.returns-clause-written
+returns-clause-written c = λ P frames row written pair z x names. Naming.written_names P frames row written pair z x names
