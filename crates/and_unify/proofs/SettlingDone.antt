@@ -26,7 +26,7 @@ use Rattle.and_unify.specs.Pairs.{equations_of_pairs, AreWritten, NameNoHalf}
 use Rattle.and_unify.specs.Following.{NewFollow}
 use Rattle.and_unify.specs.declared.settling.Settled.{Settled}
 use Rattle.and_unify.specs.declared.settling.Settled.TheVariants.{Solved, NoSolution, Memory}
-use Rattle.and_unify.specs.Settling.{equations_with, Settles}
+use Rattle.and_unify.specs.Settling.{equations_with, Settles, SetsPlaces}
 use Rattle.and_unify.proofs.SettlingSame.{Grows, same_half, solves_now, solves_new, solves_old, most_general_of}
 use Rattle.and_unify.proofs.SettlingTerms.{Binds, BoundEnd, bound_grows, all_terms}
 
@@ -66,6 +66,14 @@ have_been_set P old new pairs start items none keeps made l =
         ]
       ];
     }
+
+-- What was set is something to which the row and the sides lead.
+pub sets_places : (P : NamedProgram) (old new : List Ref) (pairs : List Pair) (items : List ℕ)
+    → ((place : ℕ) (r : Ref) → IsSetTo new place r → IsSetTo old place r ⊎ (Contains items place × IsPlace P (plain old) (sides pairs) r))
+    → SetsPlaces P old new pairs
+sets_places P old new pairs items made = record {
+  each = λ cell r set. elim (made cell r set) [ inl before ↦ inl before | inr on ↦ inr on.1 ];
+}
 
 -- What the sides name is no half now if it was none.
 no_half_now : (P : NamedProgram) (old new : List Ref) (pairs : List Pair) → Grows old new → NameNoHalf P (word_at old) pairs → NameNoHalf P (word_at new) pairs
@@ -176,3 +184,7 @@ unsettled P row pairs answer other none = record {
   keeps = reads_keeps (plain row) (plain row) (reads_nothing (plain row));
   halves = λ cell half. half;
 }
+
+-- Nor was anything set to what no word of the row or side leads to.
+pub places_stay : (P : NamedProgram) (row : List Ref) (pairs : List Pair) → SetsPlaces P row row pairs
+places_stay P row pairs = record { each = λ cell r set. inl set }

@@ -1,5 +1,5 @@
 -- Rows to which frames were added, and what settling comes to.
-use Rattle.std.specs.Prelude.{ℕ, ◌<◌, ◌≤◌, ◌≡◌, ◌++◌, true, false, List, length, All}
+use Rattle.std.specs.Prelude.{ℕ, ◌<◌, ◌≤◌, ◌≡◌, ◌⊎◌, ◌++◌, true, false, List, length, All}
 use Rattle.and_model.specs.Solutions.{Equation, Solvable}
 use Rattle.and_model.specs.Store.{is_half}
 use Rattle.and_model.specs.declared.reference.Ref.{Ref}
@@ -14,6 +14,7 @@ use Rattle.and_unify.specs.declared.pairs.Pair.{Pair}
 use Rattle.and_unify.specs.declared.settling.Settled.{Settled}
 use Rattle.and_unify.specs.declared.settling.Settled.TheVariants.{Solved, NoSolution}
 use Rattle.and_unify.specs.Pairs.{equations_of_pairs}
+use Rattle.and_unify.specs.Places.{sides, IsPlace}
 
 -- the equations of a row and of pairs
 abbrev pub equations_with : NamedProgram → List Ref → List Pair → List Equation
@@ -50,3 +51,9 @@ pub record Settles (P : NamedProgram) (old new : List Ref) (pairs : List Pair) (
   -- What was set stays, and no further cell is a word of a pair.
   pub keeps : Keeps (plain old) (plain new)
   pub halves : (cell : ℕ) → is_half (word_at new cell) ≡ true → is_half (word_at old cell) ≡ true
+
+-- Each word that is set was set so before, or is something to which the words of the row and the sides of the pairs
+-- led.
+pub record SetsPlaces (P : NamedProgram) (old new : List Ref) (pairs : List Pair) : Type 0 where
+  pub each : (cell : ℕ) (r : Ref) → IsSetTo new cell r
+      → IsSetTo old cell r ⊎ IsPlace P (plain old) (sides pairs) r

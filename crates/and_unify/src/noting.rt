@@ -4,14 +4,14 @@ ghost use Rattle.std.specs.Prelude.{◌≡◌, ◌<◌, [], ◌∷◌, ◌++◌,
 
 use std::alloc::AllocError;
 
-/// Makes room for one cell more, where the list has none. An error is want of memory.
+/// Makes room for one thing more on a list that has none. An error is want of memory.
 #[inline(always)]
-pub fn make_room(bound: &mut Vec<u32>) -> Result<(), AllocError>
-    ensures items { bound.new.items ≡ bound.old.items }
-    ensures room { OnOk result (vec_len bound.new < vec_capacity bound.new) }
+pub fn make_room<T>(list: &mut Vec<T>) -> Result<(), AllocError>
+    ensures items { list.new.items ≡ list.old.items }
+    ensures room { OnOk result (vec_len list.new < vec_capacity list.new) }
 {
-    if bound.len() == bound.capacity() {
-        bound.reserve(1)?;
+    if list.len() == list.capacity() {
+        list.reserve(1)?;
     }
     Ok(())
 }

@@ -16,7 +16,7 @@ ghost use Rattle.and_cells.specs.Ends.{IsBelow, Ends};
 ghost use Rattle.and_circles.specs.Explored.{AreFinished};
 ghost use Rattle.and_unify.specs.Pairs.{AreInRange, AreWritten, NameNoHalf};
 ghost use Rattle.and_unify.specs.Setting.{HaveBeenSet};
-ghost use Rattle.and_unify.specs.Settling.{equations_with, AreNewFrom, EndsFrom, Settles};
+ghost use Rattle.and_unify.specs.Settling.{equations_with, AreNewFrom, EndsFrom, Settles, SetsPlaces};
 ghost use Rattle.and_unify.specs.declared.pairs.Pair.{Pair};
 
 use crate::descending::equate;
@@ -201,6 +201,7 @@ impl Solver {
         ensures settles { Settles N.program cells.old cells.new pairs.old result }
         ensures bound { HaveBeenSet cells.old cells.new self.new }
         ensures done { result ≡ Settled.Solved → pairs.new ≡ [] }
+        ensures places { SetsPlaces N.program cells.old cells.new pairs.old }
     {
         self.bound.clear();
         settle_into(
@@ -237,6 +238,7 @@ fn settle_into<N: Naming>(
     ensures settles { Settles N.program cells.old cells.new pairs.old result }
     ensures bound { HaveBeenSet cells.old cells.new bound.new.items }
     ensures done { result ≡ Settled.Solved → pairs.new ≡ [] }
+    ensures places { SetsPlaces N.program cells.old cells.new pairs.old }
 {
     laws_of_rows(loaded, cells);
     let alloc = *bound.allocator();

@@ -3,11 +3,11 @@ use Rattle.std.specs.Prelude.{All}
 use Rattle.and_model.specs.Solutions.{Solves}
 use Rattle.and_model.specs.declared.reference.Ref.{Ref}
 use Rattle.and_unify.specs.Setting.{HaveBeenSet}
-use Rattle.and_unify.specs.Settling.{Settles}
+use Rattle.and_unify.specs.Settling.{Settles, SetsPlaces}
 use Rattle.and_unify.specs.declared.pairs.Pair.{Pair}
 use Rattle.and_unify.specs.Pairs.{equations_of_pairs}
 use Rattle.and_unify.proofs.SettlingTerms.{BoundEnd, binds}
-use Rattle.and_unify.proofs.SettlingDone.{listed_in_row, have_been_set, judged, settled_apart, broken_off}
+use Rattle.and_unify.proofs.SettlingDone.{listed_in_row, have_been_set, sets_places, judged, settled_apart, broken_off}
 use Rattle.and_unify.proofs.settling.settle_into.Goals as goal
 
 pub judge-requires-clause-in_row : goal.judge-requires-clause-in_row
@@ -107,3 +107,20 @@ returns-in-Memory-clause-bound g c =
     have_been_set g.N.Naming.program c.args.cells.now c.equate.new.cells c.args.pairs.now c.args.bound.now.items c.equate.new.bound.items c.requires.empty
     c.equate.ensures.keeps
     c.equate.ensures.sets c.equate.ensures.bound
+
+pub returns-in-Same-clause-places : goal.returns-in-Same-clause-places
+returns-in-Same-clause-places g c =
+    subst (λ (row : List Ref). SetsPlaces g.N.Naming.program c.args.cells.now row c.args.pairs.now) (sym c.judge.ensures.same)
+    (sets_places g.N.Naming.program c.args.cells.now c.equate.new.cells c.args.pairs.now c.equate.new.bound.items c.equate.ensures.sets)
+
+pub returns-in-Apart-clause-places : goal.returns-in-Apart-clause-places
+returns-in-Apart-clause-places g c =
+    sets_places g.N.Naming.program c.args.cells.now c.equate.new.cells c.args.pairs.now c.equate.new.bound.items c.equate.ensures.sets
+
+pub returns-in-PutOff-clause-places : goal.returns-in-PutOff-clause-places
+returns-in-PutOff-clause-places g c =
+    sets_places g.N.Naming.program c.args.cells.now c.equate.new.cells c.args.pairs.now c.equate.new.bound.items c.equate.ensures.sets
+
+pub returns-in-Memory-clause-places : goal.returns-in-Memory-clause-places
+returns-in-Memory-clause-places g c =
+    sets_places g.N.Naming.program c.args.cells.now c.equate.new.cells c.args.pairs.now c.equate.new.bound.items c.equate.ensures.sets

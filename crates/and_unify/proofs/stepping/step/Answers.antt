@@ -18,7 +18,7 @@ pub returns-in-Structures-clause-done : goal.returns-in-Structures-clause-done
 returns-in-Structures-clause-done g c = λ is.
     steps_down g.C.Cells.program (named c.args.loaded.now) c.args.pair c.in-Structures.left c.in-Structures.right (g.C.Cells.seen c.args.cells.now)
     (g.C.Cells.seen c.meet.new.cells)
-    c.args.classes.now c.descend.new.classes c.args.list.now c.descend.new.list c.args.bound.now.items c.make_room.new.bound.items
+    c.args.classes.now c.descend.new.classes c.args.list.now c.descend.new.list c.args.bound.now.items c.make_room.new.list.items
     c.requires.program (c.meet.ensures.structures c.in-Structures.left c.in-Structures.right c.in-Structures.is) c.make_room.ensures.items
     (c.descend.ensures.done is)
 
