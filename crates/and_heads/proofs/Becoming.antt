@@ -18,7 +18,7 @@ use Rattle.and_unify.specs.declared.unifying.Unified.TheVariants as unified
 use Rattle.and_unify.specs.Pairs.{AreInRange, AreWritten, NameNoHalf}
 use Rattle.and_unify.specs.Places.{sides, IsPlace}
 use Rattle.and_unify.specs.Setting.{HaveBeenSet}
-use Rattle.and_unify.specs.Settling.{AreNewFrom, EndsFrom, Settles}
+use Rattle.and_unify.specs.Settling.{AreNewFrom, EndsFrom, Settles, SetsPlaces}
 use Rattle.and_unify.specs.Running.{Runs, BreaksOff}
 use Rattle.and_unify.specs.Unifying.{Unifies}
 use Rattle.and_unify.proofs.TurnAnswers.{sets_end}
@@ -26,7 +26,7 @@ use Rattle.and_unify.proofs.DescentKept.{Held, IsOutOr, same_end, apart_met}
 use Rattle.and_unify.proofs.DescentEnds.{left_held, broken_held, broken_now}
 use Rattle.and_unify.proofs.SettlingTerms.{Binds, binds}
 use Rattle.and_unify.proofs.SettlingSeen.{ends_above}
-use Rattle.and_unify.proofs.SettlingDone.{have_been_set, judged, settled_apart}
+use Rattle.and_unify.proofs.SettlingDone.{have_been_set, sets_places, judged, settled_apart}
 
 -- A list has a number or not.
 among_or_not : (cells : List ℕ) (place : ℕ) → Contains cells place ⊎ (Contains cells place → ⊥)
@@ -64,6 +64,9 @@ module _ (P : NamedProgram) (old new : List Ref) (asked : List Pair) (floor : �
     been_set : HaveBeenSet old new items
     been_set = have_been_set P old new asked began items none h.kept.keeps made h.kept.lists
 
+    made_places : SetsPlaces P old new asked
+    made_places = sets_places P old new asked items made
+
     bound_so : IsSettled P old → NameNoHalf P (word_at old) asked → AreNewFrom P old asked floor → Binds P old new asked floor items
     bound_so settled no_half is_new = binds P old new asked floor items fall sound range settled no_half is_new h.kept.keeps made
 
@@ -74,6 +77,15 @@ module _ (P : NamedProgram) (old new : List Ref) (asked : List Pair) (floor : �
   -- Where two are apart too.
   pub broken_set : (one other : Ref) → BreaksOff P (plain old) (plain new) asked began items one other → HaveBeenSet old new items
   broken_set one other b = been_set (IsOutOr b.p b.rest) (broken_now P (plain old) (plain new) asked began items fall range written one other b)
+
+  -- What was set is something to which the row and the sides led, whatever is left,
+  pub left_places : (left : List Pair) → Runs P (plain old) asked began (plain new) left items → SetsPlaces P old new asked
+  left_places left runs = made_places (Contains left) (left_held P (plain old) (plain new) asked began items fall range written left runs)
+
+  -- and where two are apart too.
+  pub broken_places : (one other : Ref) → BreaksOff P (plain old) (plain new) asked began items one other → SetsPlaces P old new asked
+  broken_places one other b =
+      made_places (IsOutOr b.p b.rest) (broken_now P (plain old) (plain new) asked began items fall range written one other b)
 
   module _ (settled : IsSettled P old) (no_half : NameNoHalf P (word_at old) asked) (is_new : AreNewFrom P old asked floor) where
     pub broken_apart : (one other : Ref) → BreaksOff P (plain old) (plain new) asked began items one other → Settles P old new asked NoSolution

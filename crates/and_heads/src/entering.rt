@@ -536,8 +536,9 @@ fn put(one: Ref, other: Ref, parts: &mut Vec<Part>) -> Entered
             base: by,
         },
     };
-    match parts.push(part) {
-        Ok(()) => Entered::Done,
-        Err(_) => Entered::GivenUp,
+    if make_room(parts).is_err() {
+        return Entered::GivenUp;
     }
+    parts.push_reserved(part);
+    Entered::Done
 }

@@ -10,7 +10,7 @@ ghost use Rattle.and_cells.specs.Meaning.{IsSettled};
 ghost use Rattle.and_cells.specs.Parts.{named};
 ghost use Rattle.and_unify.specs.Pairs.{AreInRange, AreWritten, NameNoHalf};
 ghost use Rattle.and_unify.specs.Setting.{HaveBeenSet};
-ghost use Rattle.and_unify.specs.Settling.{AreNewFrom, Settles};
+ghost use Rattle.and_unify.specs.Settling.{AreNewFrom, Settles, SetsPlaces};
 ghost use Rattle.and_unify.specs.declared.settling.Settled.{Settled};
 ghost use Rattle.and_heads.specs.Calls.{call_and_head};
 
@@ -120,6 +120,7 @@ impl HeadSolver {
         ensures settles { Settles N.program cells.old cells.new pairs.old result }
         ensures bound { HaveBeenSet cells.old cells.new self.new }
         ensures done { result ≡ Settled.Solved → pairs.new ≡ [] }
+        ensures places { SetsPlaces N.program cells.old cells.new pairs.old }
     {
         let words = cells.len();
         self.bound.clear();
@@ -170,6 +171,7 @@ impl HeadSolver {
         ensures settles { Settles N.program cells.old cells.new
             (call_and_head N.program base call.0 floor head.0) result }
         ensures bound { HaveBeenSet cells.old cells.new self.new }
+        ensures places { SetsPlaces N.program cells.old cells.new (call_and_head N.program base call.0 floor head.0) }
     {
         let _before = cells.len();
         self.bound.clear();
@@ -220,6 +222,7 @@ impl HeadSolver {
         ensures settles { Settles N.program cells.old cells.new
             (call_and_head N.program base call.0 floor head.0) result }
         ensures bound { HaveBeenSet cells.old cells.new self.new }
+        ensures places { SetsPlaces N.program cells.old cells.new (call_and_head N.program base call.0 floor head.0) }
     {
         let left = loaded.resolve(call, base);
         let right = loaded.resolve(head, floor);
@@ -255,6 +258,7 @@ fn settle_by_solver<N: Naming>(
     ensures settles { Settles N.program cells.old cells.new pairs.old result }
     ensures bound { HaveBeenSet cells.old cells.new solver.new }
     ensures done { result ≡ Settled.Solved → pairs.new ≡ [] }
+    ensures places { SetsPlaces N.program cells.old cells.new pairs.old }
 {
     solver.settle_further(loaded, cells, floor, pairs)
 }
@@ -280,6 +284,7 @@ fn settle_directly<N: Naming>(
     ensures done { result ≡ Entered.Done → Settles N.program cells.old cells.new pairs.now Settled.Solved }
     ensures apart { result ≡ Entered.Apart → Settles N.program cells.old cells.new pairs.now Settled.NoSolution }
     ensures bound { HaveBeenSet cells.old cells.new bound.new.items }
+    ensures places { SetsPlaces N.program cells.old cells.new pairs.now }
 {
     laws_of_rows(loaded, cells);
     let mut owed = Owed::Nothing;
@@ -317,6 +322,7 @@ fn settle_call_directly<N: Naming>(
     ensures apart { result ≡ Entered.Apart → Settles N.program cells.old cells.new
         (call_and_head N.program base call.0 floor head.0) Settled.NoSolution }
     ensures bound { HaveBeenSet cells.old cells.new bound.new.items }
+    ensures places { SetsPlaces N.program cells.old cells.new (call_and_head N.program base call.0 floor head.0) }
 {
     laws_of_rows(loaded, cells);
     let mut owed = Owed::Nothing;

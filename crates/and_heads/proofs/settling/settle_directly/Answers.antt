@@ -3,7 +3,7 @@ use Rattle.std.specs.Prelude.{All}
 use Rattle.std.proofs.lemmas.List.Elements.{All-nil}
 use Rattle.and_unify.specs.Settling.{EndsFrom}
 use Rattle.and_heads.specs.Owing.{EndsAtWord, AreOwed}
-use Rattle.and_heads.proofs.Becoming.{all_solved, broken_apart, left_set, broken_set}
+use Rattle.and_heads.proofs.Becoming.{all_solved, broken_apart, left_set, broken_set, left_places, broken_places}
 use Rattle.and_heads.proofs.settling.settle_directly.Goals as goal
 
 pub owed_end-requires-clause-in_row : goal.owed_end-requires-clause-in_row
@@ -58,4 +58,24 @@ returns-in-GivenUp-clause-bound g c =
     let laws = c.laws_of_rows.ensures in
     let comes = c.in-GivenUp.ensures.comes in
     left_set g.N.Naming.program c.args.cells.now c.enter.new.cells c.args.pairs.now c.args.floor c.args.bound.now.items c.enter.new.bound.items
+    c.requires.empty laws.falls laws.sound c.requires.in_range c.requires.written comes.0 comes.1
+
+pub returns-in-Done-clause-places : goal.returns-in-Done-clause-places
+returns-in-Done-clause-places g c =
+    let laws = c.laws_of_rows.ensures in
+    left_places g.N.Naming.program c.args.cells.now c.enter.new.cells c.args.pairs.now c.args.floor c.args.bound.now.items c.enter.new.bound.items
+    c.requires.empty laws.falls laws.sound c.requires.in_range c.requires.written [] c.in-Done.ensures.comes
+
+pub returns-in-Apart-clause-places : goal.returns-in-Apart-clause-places
+returns-in-Apart-clause-places g c =
+    let laws = c.laws_of_rows.ensures in
+    let comes = c.in-Apart.ensures.comes in
+    broken_places g.N.Naming.program c.args.cells.now c.enter.new.cells c.args.pairs.now c.args.floor c.args.bound.now.items c.enter.new.bound.items
+    c.requires.empty laws.falls laws.sound c.requires.in_range c.requires.written comes.0 comes.1 comes.2
+
+pub returns-in-GivenUp-clause-places : goal.returns-in-GivenUp-clause-places
+returns-in-GivenUp-clause-places g c =
+    let laws = c.laws_of_rows.ensures in
+    let comes = c.in-GivenUp.ensures.comes in
+    left_places g.N.Naming.program c.args.cells.now c.enter.new.cells c.args.pairs.now c.args.floor c.args.bound.now.items c.enter.new.bound.items
     c.requires.empty laws.falls laws.sound c.requires.in_range c.requires.written comes.0 comes.1

@@ -5,7 +5,7 @@ use Rattle.and_cells.specs.Seen.{word_at}
 use Rattle.and_cells.specs.Ranges.{IsNodeInRange}
 use Rattle.and_cells.specs.Meaning.{IsSettled}
 use Rattle.and_unify.specs.Pairs.{AreInRange, AreWritten, NameNoHalf}
-use Rattle.and_unify.specs.Settling.{AreNewFrom, Settles}
+use Rattle.and_unify.specs.Settling.{AreNewFrom, Settles, SetsPlaces}
 use Rattle.and_unify.specs.Setting.{HaveBeenSet}
 use Rattle.and_heads.specs.Calls.{call_and_head}
 use Rattle.and_heads.proofs.Becoming.{set_back, back}
@@ -88,3 +88,11 @@ returns-clause-bound g c =
     let many : c.len-words.result ≡ length c.args.cells.now = c.len-words.ensures.value ∙ set.words in
     let same = back c.args.cells.now _ _ _ _ _ many c.deref.ensures.value set c.take_back.ensures in
     subst (λ (r : List Ref). HaveBeenSet r c.settle_call_by_solver.new.cells c.settle_call_by_solver.new.self) same c.settle_call_by_solver.ensures.bound
+
+pub returns-clause-places : goal.returns-clause-places
+returns-clause-places g c =
+    let set = c.settle_call_directly.ensures.bound in
+    let many : c.len-words.result ≡ length c.args.cells.now = c.len-words.ensures.value ∙ set.words in
+    let same = back c.args.cells.now _ _ _ _ _ many c.deref.ensures.value set c.take_back.ensures in
+    subst (λ (r : List Ref). SetsPlaces g.N.Naming.program r c.settle_call_by_solver.new.cells
+    (call_and_head g.N.Naming.program c.args.base c.args.call.0 c.args.floor c.args.head.0)) same c.settle_call_by_solver.ensures.places

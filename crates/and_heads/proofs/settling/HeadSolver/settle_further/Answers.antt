@@ -4,7 +4,7 @@ use Rattle.and_cells.specs.Rows.{IsSound, plain}
 use Rattle.and_cells.specs.Seen.{word_at}
 use Rattle.and_cells.specs.Meaning.{IsSettled}
 use Rattle.and_unify.specs.Pairs.{AreInRange, AreWritten, NameNoHalf}
-use Rattle.and_unify.specs.Settling.{AreNewFrom, Settles}
+use Rattle.and_unify.specs.Settling.{AreNewFrom, Settles, SetsPlaces}
 use Rattle.and_unify.specs.Setting.{HaveBeenSet}
 use Rattle.and_heads.proofs.Becoming.{set_back, back}
 use Rattle.and_heads.proofs.settling.HeadSolver.settle_further.Goals as goal
@@ -51,3 +51,8 @@ pub returns-clause-bound : goal.returns-clause-bound
 returns-clause-bound g c =
     let same = back c.args.cells.now _ _ _ _ _ c.len-words.ensures.value c.deref.ensures.value c.settle_directly.ensures.bound c.take_back.ensures in
     subst (λ (r : List Ref). HaveBeenSet r c.settle_by_solver.new.cells c.settle_by_solver.new.solver) same c.settle_by_solver.ensures.bound
+
+pub returns-clause-places : goal.returns-clause-places
+returns-clause-places g c =
+    let same = back c.args.cells.now _ _ _ _ _ c.len-words.ensures.value c.deref.ensures.value c.settle_directly.ensures.bound c.take_back.ensures in
+    subst (λ (r : List Ref). SetsPlaces g.N.Naming.program r c.settle_by_solver.new.cells c.args.pairs.now) same c.settle_by_solver.ensures.places
