@@ -3,6 +3,7 @@ mod Beginning
 mod Begins
 pub mod Calls
 mod Comparing
+mod Constants
 mod Filling
 mod Looking
 mod Meeting

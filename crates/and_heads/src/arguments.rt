@@ -1,6 +1,6 @@
 //! Two arguments that are met at a look, as most are: a cell is free, or both are structures.
 
-ghost use Rattle.std.specs.Prelude.{◌≡◌, ◌<◌, ◌^◌, length};
+ghost use Rattle.std.specs.Prelude.{◌≡◌, ◌<◌, ◌^◌, List, ℕ, length};
 ghost use Rattle.and_model.specs.declared.reference.Ref.{Ref};
 ghost use Rattle.and_program.specs.Loaded.{skeleton_of};
 ghost use Rattle.and_cells.specs.Ranges.{IsInRange};
@@ -300,11 +300,7 @@ fn enter_structure<N: Naming>(
         Ref::Node {
             node: there,
             base: by,
-        } => {
-            ends_of_structures(
-                loaded, cells, there, by, node, base, floor, bound, owed, parts,
-            )
-        }
+        } => { compare_structures(loaded, cells, there, by, node, base, parts) }
         _ => Entered::GivenUp,
     }
 }
@@ -461,30 +457,24 @@ fn ends_beside_cell<N: Naming>(
     )
 }
 
-/// Meets two structures.
-#[cold]
+/// Compares two structures. This takes numbers, as the calls above do.
 #[inline(never)]
-fn ends_of_structures<N: Naming>(
+fn compare_structures<N: Naming>(
     loaded: &Loaded,
-    cells: &mut PlainCells<N>,
+    cells: &PlainCells<N>,
     there: NodeNo,
     by: u32,
     node: NodeNo,
     base: u32,
-    floor: u32,
-    bound: &mut Vec<u32>,
-    owed: &mut Owed,
     parts: &mut Vec<Part>,
 ) -> Entered
     requires program { N.program ≡ named loaded.now }
-    requires in_range { IsInRange N.program (length cells.old) (Ref.Node there by)
-        × IsInRange N.program (length cells.old) (Ref.Node node base) }
-    ensures meets { Meets N.program (record { left = Ref.Node there by; right = Ref.Node node base })
-        (plain cells.old) (plain cells.new) parts.old.items parts.new.items bound.old.items bound.new.items result }
-    ensures owed { AreOwed N.program floor cells.old bound.old.items owed.old
-        → AreOwed N.program floor cells.new bound.new.items owed.new }
+    requires in_range { IsInRange N.program (length cells.now) (Ref.Node there by)
+        × IsInRange N.program (length cells.now) (Ref.Node node base) }
+    ensures { (bound : List ℕ) → Meets N.program (record { left = Ref.Node there by; right = Ref.Node node base })
+        (plain cells.now) (plain cells.now) parts.old.items parts.new.items bound bound result }
 {
-    enter_ends(
+    compare(
         loaded,
         cells,
         Ref::Node {
@@ -492,9 +482,6 @@ fn ends_of_structures<N: Naming>(
             base: by,
         },
         Ref::Node { node, base },
-        floor,
-        bound,
-        owed,
         parts,
     )
 }

@@ -1,12 +1,12 @@
 //! Whether paths from cells that were set are seen to end.
 
-ghost use Rattle.std.specs.Prelude.{◌≡◌, ◌<◌, ◌≤◌, All, ℕ, length, true, false};
+ghost use Rattle.std.specs.Prelude.{◌≡◌, ◌<◌, ◌≤◌, List, All, ℕ, length, true, false};
 ghost use Rattle.and_model.specs.declared.reference.Ref.{Ref};
-ghost use Rattle.and_program.specs.Loaded.{arguments_at};
+ghost use Rattle.and_program.specs.Loaded.{arguments_at, skeleton_of};
 ghost use Rattle.and_program.specs.Skeletons.{AllFall};
 ghost use Rattle.and_cells.specs.Ranges.{IsInRange};
 ghost use Rattle.and_cells.specs.Rows.{IsSound};
-ghost use Rattle.and_cells.specs.Parts.{named};
+ghost use Rattle.and_cells.specs.Parts.{named, part_at};
 ghost use Rattle.and_cells.specs.Ends.{Ends};
 ghost use Rattle.and_cells.specs.Ground.{EndsGround};
 ghost use Rattle.and_circles.specs.Following.{argument_part};
@@ -19,7 +19,7 @@ use crate::parts::is_free;
 use and_cells::{Naming, PlainCells};
 use and_circles::ends_soon;
 use and_model::{NodeNo, Ref};
-use and_program::Loaded;
+use and_program::{Loaded, NodeKind};
 use and_unify::structures::argument_count;
 
 /// So many places are followed at most where paths branch,
@@ -395,12 +395,13 @@ fn parts_end<N: Naming>(
 #[inline(always)]
 fn part_ends<N: Naming>(loaded: &Loaded, cells: &PlainCells<N>, floor: u32, part: Ref) -> bool
     requires program { N.program ≡ named loaded.now }
+    requires falls { AllFall 0 N.program.skeleton.nodes }
     requires in_range { IsInRange N.program (length cells.now) part }
     ensures { result ≡ true → Ends N.program cells.now floor false part }
 {
     match part {
         Ref::Cell(cell) => cell < floor || word_ends(loaded, cells, floor, cell),
-        Ref::Node { node, .. } => argument_count(loaded, node) == 0,
+        Ref::Node { node, .. } => node_ends(loaded, node),
         Ref::Number(_) => true,
         Ref::Free => false,
         Ref::Half(_) => false,
@@ -411,6 +412,7 @@ fn part_ends<N: Naming>(loaded: &Loaded, cells: &PlainCells<N>, floor: u32, part
 #[inline(always)]
 fn word_ends<N: Naming>(loaded: &Loaded, cells: &PlainCells<N>, floor: u32, cell: u32) -> bool
     requires program { N.program ≡ named loaded.now }
+    requires falls { AllFall 0 N.program.skeleton.nodes }
     requires in_row { cell < length cells.now }
     ensures { result ≡ true → Ends N.program cells.now floor false (Ref.Cell cell) }
 {
@@ -421,7 +423,52 @@ fn word_ends<N: Naming>(loaded: &Loaded, cells: &PlainCells<N>, floor: u32, cell
         Ref::Free => true,
         Ref::Number(_) => true,
         Ref::Cell(other) => is_free(cells, other),
-        Ref::Node { node, .. } => argument_count(loaded, node) == 0,
+        Ref::Node { node, .. } => node_ends(loaded, node),
         Ref::Half(_) => false,
+    }
+}
+
+/// Whether a node has no arguments, or constants alone: then no path goes on from it, whatever its frame.
+#[inline(always)]
+fn node_ends(loaded: &Loaded, node: NodeNo) -> bool
+    requires there { node.0 < length (skeleton_of loaded.now).nodes }
+    requires falls { AllFall 0 (skeleton_of loaded.now).nodes }
+    ensures { result ≡ true → (row : List Ref) (floor base : ℕ)
+        → Ends (named loaded.now) row floor false (Ref.Node node base) }
+{
+    if argument_count(loaded, node) == 0 {
+        return true;
+    }
+    has_constants_alone(loaded, node)
+}
+
+/// The same of the arguments that it has: a call of its own, since most nodes have none.
+#[inline(never)]
+fn has_constants_alone(loaded: &Loaded, node: NodeNo) -> bool
+    requires there { node.0 < length (skeleton_of loaded.now).nodes }
+    requires falls { AllFall 0 (skeleton_of loaded.now).nodes }
+    ensures { result ≡ true → (row : List Ref) (floor base : ℕ)
+        → Ends (named loaded.now) row floor false (Ref.Node node base) }
+{
+    let nodes = loaded.arguments(node);
+    for place in 0..nodes.len() {
+        if !is_constant(loaded, nodes[place]) {
+            return false;
+        }
+    }
+    true
+}
+
+/// Whether a node is a number, or a name without arguments.
+#[inline(always)]
+fn is_constant(loaded: &Loaded, node: NodeNo) -> bool
+    requires { node.0 < length (skeleton_of loaded.now).nodes }
+    ensures { result ≡ true → (row : List Ref) (floor base : ℕ)
+        → Ends (named loaded.now) row floor false (part_at (named loaded.now) base node.0) }
+{
+    match loaded.kind(node) {
+        NodeKind::Variable(_) => false,
+        NodeKind::Number(_) => true,
+        NodeKind::Compound { name: _, count } => count == 0,
     }
 }

@@ -1,10 +1,8 @@
-use Rattle.std.proofs.Common.{◌≡◌, length, sym, ◌∙◌, subst, arith}
-use Rattle.std.proofs.lemmas.Bool.Decides.{nat_tests}
-use Rattle.and_model.specs.declared.reference.Ref.TheVariants.{Cell}
-use Rattle.and_program.specs.Loaded.{arguments_at}
+use Rattle.std.proofs.Common.{length, sym, ◌∙◌, subst, false, arith}
+use Rattle.and_model.specs.declared.reference.Ref.TheVariants.{Cell, Node}
+use Rattle.and_program.specs.Skeletons.{AllFall}
 use Rattle.and_cells.specs.Ranges.{NamedProgram, CanHold}
 use Rattle.and_cells.specs.Ends.{Ends}
-use Rattle.and_circles.proofs.Sufficing.{structure_ends}
 use Rattle.and_heads.proofs.Looking.{free_word, number_word, cell_word, node_word}
 use Rattle.and_heads.proofs.ending.word_ends.Goals as goal
 
@@ -32,12 +30,13 @@ returns-in-Cell g c = λ is.
     cell_word g.N.Naming.program c.args.cells.now c.args.floor c.args.cell c.word.result c.word.ensures.value c.in-Cell.other c.in-Cell.is
     (Ends.free c.in-Cell.other (c.is_free-in-Cell.ensures is))
 
+pub node_ends-requires-clause-falls : goal.node_ends-requires-clause-falls
+node_ends-requires-clause-falls g c = subst (λ (Q : NamedProgram). AllFall 0 Q.skeleton.nodes) c.requires.program c.requires.falls
+
 pub returns-in-Node : goal.returns-in-Node
-returns-in-Node g c = λ none.
+returns-in-Node g c = λ is.
     let P = g.N.Naming.program in
     let row = c.args.cells.now in
-    let zero : c.argument_count.result ≡ 0 = grind (arith, nat_tests, none) in
-    let count : length (arguments_at P.skeleton c.in-Node.node.0) ≡ 0 =
-    subst (λ (Q : NamedProgram). length (arguments_at Q.skeleton c.in-Node.node.0) ≡ 0) (sym c.requires.program) (sym c.argument_count.ensures ∙ zero) in
     node_word P row c.args.floor c.args.cell c.word.result c.word.ensures.value c.in-Node.node c.in-Node.base c.in-Node.is
-    (structure_ends P row c.in-Node.node c.in-Node.base c.args.floor (λ place below. absurd (omega arith)))
+    (subst (λ (Q : NamedProgram). Ends Q row c.args.floor false (Node c.in-Node.node c.in-Node.base)) (sym c.requires.program)
+    (c.node_ends.ensures is row c.args.floor c.in-Node.base))
