@@ -98,6 +98,12 @@ def count(n):
     return f"count(0).\ncount(N) :- N > 0, M is N - 1, count(M).\n?- count({n}).\n"
 
 
+def count_of_large_numbers(n):
+    """The same with numbers of nineteen digits."""
+    least = 10 ** 18
+    return f"down({least}).\ndown(N) :- N > {least}, M is N - 1, down(M).\n?- down({least + n}).\n"
+
+
 def length(n):
     """A length whose sums stand first, so that each waits for the one behind it."""
     return ("list(0, []).\nlist(N, [_|T]) :- N > 0, M is N - 1, list(M, T).\nlen([], 0).\nlen([_|T], N) :- N is M + 1, len(T, M).\n"
@@ -158,20 +164,31 @@ next(A, B, L) :- right(B, A, L).
    member(house(_,Owner,zebra,_,_), Houses).
 """
 
+MONEY_TESTS_LAST = """% The digits of a column are chosen, and then its sum is tested.
+select(X, [X|T], T).
+select(X, [H|T], [H|R]) :- select(X, T, R).
+column(A, B, From, C, To) :- S is A + B + From, C is S mod 10, To is S // 10.
+?- select(D, [0,1,2,3,4,5,6,7,8,9], _P), select(E, _P, _Q), select(Y, _Q, _R), column(D, E, 0, Y, _U),
+   select(N, _R, _S), select(R, _S, _T), column(N, R, _U, E, _V), select(O, _T, _W), column(E, O, _V, N, _X),
+   select(S, _W, _Y), S > 0, select(M, _Y, _Z), M > 0, column(S, M, _X, O, M).
+"""
+
 # name, text, and whether arithmetic has to wait in SWI-Prolog
 PROGRAMS = (
     [(f"naive reverse of {n}", reverse(n), False) for n in (30, 100, 400)]
     + [("Peano product of 60 and 60", peano(60), False)]
     + [(f"generated graph, {n}", graph(n), False) for n in (16, 32, 64)]
     + [(f"queens with tests first, {n}", queens(n), True) for n in (6, 8)]
-    + [("SEND + MORE = MONEY, tests first", example("money.pl"), True)]
+    + [("SEND + MORE = MONEY, tests first", example("money.pl"), True), ("SEND + MORE = MONEY, tests last", MONEY_TESTS_LAST, False)]
     + [("zebra", ZEBRA, False), ("a map of colours", colours(), False), ("blocks, a planner", BLOCKS, False)]
     + [("crossing, a planner", example("crossing.pl"), False)]
     + [("20,000 facts, three calls", facts(20000), False)]
     + [("20,000 facts below 100,000 words", facts_below(20000, 100000), False)]
-    + [("permutations of 7", permutations(7), False), ("7 pigeons in 6 holes, tests last", pigeons(7), False)]
+    + [("permutations of 7", permutations(7), False), ("Hamilton paths of 9 places", hamilton(3), False)]
+    + [("7 pigeons in 6 holes, tests last", pigeons(7), False)]
     + [(f"a term of {n} levels", deep(n), False) for n in (5000, 10000, 20000)]
     + [("a count down from 100,000", count(100000), False)]
+    + [("a count down of 50,000 large numbers", count_of_large_numbers(50000), False)]
     + [(f"a length of {n}, sums first", length(n), True) for n in (4000, 16000)]
 )
 
