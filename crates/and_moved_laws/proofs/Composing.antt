@@ -15,7 +15,7 @@ use Rattle.and_moved_laws.specs.Parts.{moved, IsTogether, IsPartOf}
 abbrev pub staying : ℕ → ℕ
 staying p = p
 
-stays : (r : Ref) → r ≡ moved staying r
+pub stays : (r : Ref) → r ≡ moved staying r
 stays Free = refl
 stays (Cell cell) = refl
 stays (Node node base) = refl
@@ -44,7 +44,7 @@ module _ (P : NamedProgram) (inner outer : ℕ → ℕ) where
   abbrev pub both : ℕ → ℕ
   both p = outer (inner p)
 
-  moved_twice : (r : Ref) → moved outer (moved inner r) ≡ moved both r
+  pub moved_twice : (r : Ref) → moved outer (moved inner r) ≡ moved both r
   moved_twice Free = refl
   moved_twice (Cell cell) = refl
   moved_twice (Node node base) = refl

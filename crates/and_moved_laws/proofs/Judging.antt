@@ -73,6 +73,31 @@ placed_moved at base t near =
     apply_then (cells_from base) (moving at) t
     ∙ apply_agree (then (cells_from base) (moving at)) (cells_from (at base)) t (λ v c. ap cell_variable (near v c))
 
+module _ (P : NamedProgram) (at : ℕ → ℕ) (part whole : List Ref) (m : IsPartOf P at part whole) (g : Goal)
+    (near : MovesTogether at g.base (term_of P.program g)) where
+  -- Its call there is the one here, with the cells named anew,
+  moved_call : placed (at g.base) (term_of P.program g) ≡ apply (moving at) (placed g.base (term_of P.program g))
+  moved_call = sym (placed_moved at g.base (term_of P.program g) near)
+
+  -- and the other way round.
+  call_back : apply (drawn at m.rises same) (placed (at g.base) (term_of P.program g)) ≡ placed g.base (term_of P.program g)
+  call_back = ap (apply (drawn at m.rises same)) moved_call ∙ apply_then (moving at) (drawn at m.rises same) (placed g.base (term_of P.program g))
+      ∙ ap (λ (s : Substitution). apply s (placed g.base (term_of P.program g))) (drawn_back at m.rises same)
+      ∙ apply_same (placed g.base (term_of P.program g))
+
+  -- Its candidates there are candidates here.
+  pub candidate_here : (c : ℕ) → CandidateInCells P whole (goal_moved at g) c → CandidateInCells P part g c
+  candidate_here c k =
+      let term : Term = term_of P.program g in
+      let goes : Goes (equations_of P whole) (equations_of P part) (placed (at g.base) term) (placed g.base term) = λ s p. (
+        then (moving at) s,
+        solves_part P at part whole m s p,
+        sym (apply_then (moving at) s (placed g.base term)) ∙ ap (apply s) (sym moved_call),
+        λ n. refl,
+      ) in
+      candidate_goes P.program (equations_of P whole) (equations_of P part) (placed (at g.base) term) (placed g.base term) c goes
+      (subst (λ (t : Term). Of P.program t c) call_back (of_applied P.program (drawn at m.rises same) (placed (at g.base) term) c k.0)) k
+
 module _ (P : NamedProgram) (at : ℕ → ℕ) (part whole : List Ref) (m : IsPartOf P at part whole) (g : Goal) (o : IsGoalOfPart P at part g) where
   abbrev term : Term
   term = term_of P.program g
@@ -85,28 +110,10 @@ module _ (P : NamedProgram) (at : ℕ → ℕ) (part whole : List Ref) (m : IsPa
       ∙ apply_agree (then (cells_from (at g.base)) r) (then (cells_from g.base) s) term h
       ∙ sym (apply_then (cells_from g.base) s term)
 
-  -- Its call there is the one here, with the cells named anew,
   pub call_moved : placed (at g.base) term ≡ apply (moving at) (placed g.base term)
-  call_moved = sym (placed_moved at g.base term o.together)
+  call_moved = moved_call P at part whole m g o.together
 
-  -- and the other way round.
-  call_back : apply (drawn at m.rises same) (placed (at g.base) term) ≡ placed g.base term
-  call_back = ap (apply (drawn at m.rises same)) call_moved ∙ apply_then (moving at) (drawn at m.rises same) (placed g.base term)
-      ∙ ap (λ (s : Substitution). apply s (placed g.base term)) (drawn_back at m.rises same) ∙ apply_same (placed g.base term)
-
-  -- Its candidates there are candidates here,
-  pub candidate_here : (c : ℕ) → CandidateInCells P whole (goal_moved at g) c → CandidateInCells P part g c
-  candidate_here c k =
-      let goes : Goes (equations_of P whole) (equations_of P part) (placed (at g.base) term) (placed g.base term) = λ s p. (
-        then (moving at) s,
-        solves_part P at part whole m s p,
-        sym (apply_then (moving at) s (placed g.base term)) ∙ ap (apply s) (sym call_moved),
-        λ n. refl,
-      ) in
-      candidate_goes P.program (equations_of P whole) (equations_of P part) (placed (at g.base) term) (placed g.base term) c goes
-      (subst (λ (t : Term). Of P.program t c) call_back (of_applied P.program (drawn at m.rises same) (placed (at g.base) term) c k.0)) k
-
-  -- and the other way round.
+  -- Where all its cells are the part's, and none is a word of a pair, those here are candidates there.
   pub candidate_there : IsSound P whole → IsSettled P whole → (c : ℕ) → CandidateInCells P part g c
       → CandidateInCells P whole (goal_moved at g) c
   candidate_there sound settled c k =

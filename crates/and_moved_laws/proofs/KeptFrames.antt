@@ -20,7 +20,7 @@ use Rattle.and_branch_laws.specs.OwnVariables.{OwnVariables}
 use Rattle.and_branch_laws.proofs.Naming.{variables_fit}
 use Rattle.and_branch_laws.proofs.Owning.{term_speaks}
 use Rattle.and_moved_laws.specs.Parts.{IsPartOf, IsGoalOfPart, goal_moved}
-use Rattle.and_moved_laws.specs.KeptFrames.{Fill, frame_of_goal, IsInFrame, NamesFrame, NamesFrames, Names, IsKept, of_query, of_goal, of_word, AreKept}
+use Rattle.and_moved_laws.specs.KeptFrames.{Fill, frame_of_goal, IsInFrame, NamesFrame, NamesFrames, Names, IsKept, of_query, of_goal, of_word, AreKept, AreEnough}
 use Rattle.and_moved_laws.specs.KeptFrames.{raised, lowered, frame_lowered, side_by_side, MovesWhole, frame_moved}
 use Rattle.and_moved_laws.proofs.Moving.{no_lower, within_part, same_half}
 use Rattle.and_moved_laws.proofs.Lowering.{LieFrom, LiesInside, IsFound, found, lower_is_part, lower_fill, frame_whole, frame_back, lower_names}
@@ -48,10 +48,21 @@ kept_is_frame frames row goals f (of_query g there e) = there
 kept_is_frame frames row goals f (of_goal g goal there among e) = there
 kept_is_frame frames row goals f (of_word from g place to kept i names there j) = there
 
+-- The kept frames are enough.
+pub kept_are_enough : (frames : List Frame) (row : List Ref) (goals : List Goal) (kept : List Frame) → AreKept frames row goals kept
+    → AreEnough frames row goals kept
+kept_are_enough frames row goals kept are = record {
+  rising = are.rising;
+  among = λ f h. kept_is_frame frames row goals f ((are.each f).0 h);
+  of_query = λ f there e. (are.each f).1 (of_query f there e);
+  of_goals = λ f g there i e. (are.each f).1 (of_goal f g there i e);
+  of_words = λ from f place to h i n there j. (are.each f).1 (of_word from f place to ((are.each from).0 h) i n there j);
+}
+
 module _ (P : NamedProgram) (row : List Ref) (sound : IsSound P row) (goals : List Goal) (frames : List Frame)
-    (fill : Fill 0 frames (length row)) (names : NamesFrames P frames row) (fs : List Frame) (chosen : AreKept frames row goals fs) where
+    (fill : Fill 0 frames (length row)) (names : NamesFrames P frames row) (fs : List Frame) (chosen : AreEnough frames row goals fs) where
   is_frame : (f : Frame) → Contains fs f → Contains frames f
-  is_frame f h = kept_is_frame frames row goals f ((chosen.each f).0 h)
+  is_frame f h = chosen.among f h
 
   pub lie : LieFrom 0 fs (length row)
   lie = lie_from 0 fs (length row) chosen.rising (λ f h. omega arith) (omega arith)
@@ -62,7 +73,7 @@ module _ (P : NamedProgram) (row : List Ref) (sound : IsSound P row) (goals : Li
 
   word_kept : (f : Frame) (place to : ℕ) → Contains fs f → IsInFrame place f → Names (word_at row place) to → (g : Frame)
       → Contains frames g → IsInFrame to g → Contains fs g
-  word_kept f place to h i n g there j = (chosen.each g).1 (of_word f g place to ((chosen.each f).0 h) i n there j)
+  word_kept f place to h i n g there j = chosen.of_words f g place to h i n there j
 
   word_inside : (f : Frame) (place : ℕ) → Contains fs f → IsInFrame place f → (r : Ref) → word_at row place ≡ r
       → NamesFrame P frames r → LiesInside P fs r
@@ -108,7 +119,7 @@ module _ (P : NamedProgram) (row : List Ref) (sound : IsSound P row) (goals : Li
   -- The query's frame stays where it is,
   pub query_stays : (f : Frame) → Contains frames f → f.base ≡ 0 → (n : ℕ) → n < f.weight → raised fs (length row) n ≡ n
   query_stays f there begins n low =
-      let h : Contains fs f = (chosen.each f).1 (of_query f there begins) in
+      let h : Contains fs f = chosen.of_query f there begins in
       let one : IsFound fs (length row) f 0 = found 0 fs (length row) lie f h 0 (omega (arith, low)) in
       let other : IsFound fs (length row) f n = found 0 fs (length row) lie f h n low in
       let m = kept_are_part in
@@ -122,7 +133,7 @@ module _ (P : NamedProgram) (row : List Ref) (sound : IsSound P row) (goals : Li
   module _ (own : OwnVariables P) (g : Goal) (h : Contains goals g) (framed : Contains frames (frame_of_goal P g))
       (whole : (v : Path × ℕ) → Contains (variables_of (term_of P.program g)) v → is_half (word_at row (g.base + 1 + v.1)) ≡ false) where
     frame_kept : Contains fs (frame_of_goal P g)
-    frame_kept = (chosen.each (frame_of_goal P g)).1 (of_goal (frame_of_goal P g) g framed h refl)
+    frame_kept = chosen.of_goals (frame_of_goal P g) g framed h refl
 
     base_there : raised fs (length row) (lowered fs g.base) ≡ g.base
     base_there = frame_back P fs row lie inside (frame_of_goal P g) frame_kept (fill_some 0 frames (length row) fill (frame_of_goal P g) framed)

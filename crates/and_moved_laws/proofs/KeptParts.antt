@@ -20,17 +20,17 @@ use Rattle.and_branch_laws.proofs.Asking
 use Rattle.and_branch_laws.proofs.Naming.{variables_fit}
 use Rattle.and_branch_laws.proofs.Owning.{term_speaks}
 use Rattle.and_moved_laws.specs.Parts.{IsGoalOfPart, goal_moved, framed_moved}
-use Rattle.and_moved_laws.specs.KeptFrames.{AreFrames, Fill, frame_of_goal, NamesFrames, AreKept, of_query, raised, lowered, frame_lowered, side_by_side}
+use Rattle.and_moved_laws.specs.KeptFrames.{AreFrames, Fill, frame_of_goal, NamesFrames, AreEnough, raised, lowered, frame_lowered, side_by_side}
 use Rattle.and_moved_laws.specs.KeptParts.{PartKept}
 use Rattle.and_moved_laws.proofs.Moving.{no_lower, same_half}
 use Rattle.and_moved_laws.proofs.Composing.{staying, part_of_itself, part_of_part}
 use Rattle.and_moved_laws.proofs.Standing.{sound_part}
 use Rattle.and_moved_laws.proofs.Tiling.{fill_some, fill_fits, tree_filled, goal_framed}
-use Rattle.and_moved_laws.proofs.KeptFrames.{kept_is_frame, kept_are_part, kept_frame_moves, kept_fill, kept_names, query_stays, goal_back, goal_frame_there}
+use Rattle.and_moved_laws.proofs.KeptFrames.{kept_are_part, kept_frame_moves, kept_fill, kept_names, query_stays, goal_back, goal_frame_there}
 
 -- ---- A branch with all its frames
 
-stays_framed : (kept : List Framed) → map (framed_moved staying) kept ≡ kept
+pub stays_framed : (kept : List Framed) → map (framed_moved staying) kept ≡ kept
 stays_framed [] = refl
 stays_framed (f ∷ kept) = ap (λ (l : List Framed). f ∷ l) (stays_framed kept)
 
@@ -95,7 +95,7 @@ module _ (P : NamedProgram) (own : OwnVariables P) (rs : List Reduction) (frames
 
   -- ---- Frames are dropped
 
-  module _ (chosen : List Frame) (are : AreKept frames part (map goal_of kept) chosen) where
+  module _ (chosen : List Frame) (are : AreEnough frames part (map goal_of kept) chosen) where
     abbrev up : ℕ → ℕ
     up p = raised chosen (length part) p
 
@@ -120,10 +120,10 @@ module _ (P : NamedProgram) (own : OwnVariables P) (rs : List Reduction) (frames
     query_chosen : Contains chosen (record { base = 0; weight = clause_weight P.program.query })
     query_chosen =
         let q : Frame = record { base = 0; weight = clause_weight P.program.query } in
-        (are.each q).1 (of_query q k.query refl)
+        are.of_query q k.query refl
 
     chosen_frame : (f : Frame) → Contains chosen f → Contains frames f
-    chosen_frame f h = kept_is_frame frames part (map goal_of kept) f ((are.each f).0 h)
+    chosen_frame f h = are.among f h
 
     query_lowered : lowered chosen 0 ≡ 0
     query_lowered =
@@ -134,9 +134,9 @@ module _ (P : NamedProgram) (own : OwnVariables P) (rs : List Reduction) (frames
         let low = no_lower (raised chosen (length part)) m.rises (lowered chosen 0) in
         omega arith
 
-    -- The branch keeps what it kept, of fewer frames.
-    pub dropped_kept : PartKept P rs (map (frame_lowered chosen) chosen) (side_by_side chosen part) (map (framed_moved (lowered chosen)) kept) tree
-    dropped_kept = record {
+    -- The branch keeps what it kept, of fewer frames of the same whole row.
+    abbrev dropped : PartKept P rs (map (frame_lowered chosen) chosen) (side_by_side chosen part) (map (framed_moved (lowered chosen)) kept) tree
+    dropped = record {
       at = λ p. k.at (up p);
       whole = k.whole;
       is_part = part_of_part P (raised chosen (length part)) k.at (side_by_side chosen part) part k.whole
@@ -165,3 +165,7 @@ module _ (P : NamedProgram) (own : OwnVariables P) (rs : List Reduction) (frames
           let (g, in_kept, is) = contains_origin (framed_moved (lowered chosen)) kept f h in
           subst (λ (x : Framed). Contains (map (frame_lowered chosen) chosen) (frame_of_goal P x.goal)) (sym is) (there g in_kept).1;
     }
+
+    pub dropped_kept : (l : PartKept P rs (map (frame_lowered chosen) chosen) (side_by_side chosen part) (map (framed_moved (lowered chosen)) kept) tree)
+        × (l.whole ≡ k.whole) × ((p : ℕ) → l.at p ≡ k.at (raised chosen (length part) p))
+    dropped_kept = (dropped, refl, λ p. refl)

@@ -23,3 +23,8 @@ pub mod MovedGoals
 pub mod Rooting
 pub mod Naming
 pub mod Closing
+pub mod PartGoals
+pub mod ClosedParts
+pub mod Undropped
+pub mod FramesBelow
+pub mod LaterRows

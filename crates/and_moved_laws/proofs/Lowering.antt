@@ -29,10 +29,10 @@ raised_first f fs words p low = ap (λ b. cond b (f.base + p) (raised fs words (
 raised_later : (f : Frame) (fs : List Frame) (words p : ℕ) → f.weight ≤ p → raised (f ∷ fs) words p ≡ raised fs words (p - f.weight)
 raised_later f fs words p past = ap (λ b. cond b (f.base + p) (raised fs words (p - f.weight))) (le-ltb p f.weight past)
 
-lowered_first : (f : Frame) (fs : List Frame) (p : ℕ) → p < f.base + f.weight → lowered (f ∷ fs) p ≡ p - f.base
+pub lowered_first : (f : Frame) (fs : List Frame) (p : ℕ) → p < f.base + f.weight → lowered (f ∷ fs) p ≡ p - f.base
 lowered_first f fs p low = ap (λ b. cond b (p - f.base) (f.weight + lowered fs p)) (lt-ltb p (f.base + f.weight) low)
 
-lowered_later : (f : Frame) (fs : List Frame) (p : ℕ) → f.base + f.weight ≤ p → lowered (f ∷ fs) p ≡ f.weight + lowered fs p
+pub lowered_later : (f : Frame) (fs : List Frame) (p : ℕ) → f.base + f.weight ≤ p → lowered (f ∷ fs) p ≡ f.weight + lowered fs p
 lowered_later f fs p past = ap (λ b. cond b (p - f.base) (f.weight + lowered fs p)) (le-ltb p (f.base + f.weight) past)
 
 raised_low : (low : ℕ) (fs : List Frame) (words : ℕ) → LieFrom low fs words → (p : ℕ) → low ≤ raised fs words p
@@ -81,7 +81,7 @@ raised_in_frame (f ∷ fs) words p low = elim (cases_lt p f.weight) [
       (g, contains_more f g fs there, subst (λ (x : ℕ). IsInFrame x g) (sym (raised_later f fs words p past)) inside)
 ]
 
-lies_behind : (low : ℕ) (fs : List Frame) (words : ℕ) → LieFrom low fs words → (f : Frame) → Contains fs f → low ≤ f.base
+pub lies_behind : (low : ℕ) (fs : List Frame) (words : ℕ) → LieFrom low fs words → (f : Frame) → Contains fs f → low ≤ f.base
 lies_behind low [] words lie f h = absurd (contains_none f h)
 lies_behind low (g ∷ fs) words lie f h = elim (contains_cases g f fs h) [
   | inl e ↦ let same : f.base ≡ g.base = ap (λ (x : Frame). x.base) e in let l = lie.0 in omega arith

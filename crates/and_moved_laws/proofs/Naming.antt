@@ -1,10 +1,12 @@
 -- Words that name what lies in frames.
-use Rattle.std.proofs.Common.{ℕ, suc, ◌+◌, ◌≡◌, List, [], ◌∷◌, map, sym, ap, ◌∙◌, subst, inl, inr, Contains}
+use Rattle.std.proofs.Common.{ℕ, suc, ◌+◌, ◌≡◌, ◌<◌, ◌≤◌, List, [], ◌∷◌, length, map, refl, sym, ap, ◌∙◌, subst, inl, inr, arith, Contains}
 use Rattle.std.specs.Prelude.{ℤ}
 use Rattle.std.proofs.lemmas.Bool.{cases_eq}
 use Rattle.std.proofs.lemmas.List.Elements.{Contains-append_left, Contains-append_right}
+use Rattle.and_model.specs.Programs.{clause_at, clause_weight}
 use Rattle.and_model.specs.Terms.{Path, Term, variables_of, variables_in}
 use Rattle.and_model.specs.Store.{Frame}
+use Rattle.and_model.specs.declared.goal.Goal.{Goal}
 use Rattle.and_model.specs.declared.reference.Ref.{Ref}
 use Rattle.and_model.specs.declared.reference.Ref.TheVariants.{Free, Cell, Node, Number, Half}
 use Rattle.and_program.specs.Skeletons
@@ -12,14 +14,18 @@ use Rattle.and_program.specs.Skeletons.{Shape, term_list, nth, shape_term, terms
 use Rattle.and_program.specs.Loaded.{shape_at}
 use Rattle.and_program.specs.Shown.{arguments_in, resolved}
 use Rattle.and_laws.proofs.Ordered.{contains_cases, contains_none}
-use Rattle.and_cells.specs.Ranges.{NamedProgram}
+use Rattle.and_cells.specs.Ranges.{NamedProgram, pair_of}
 use Rattle.and_cells.specs.Parts.{part_at, parts_of}
 use Rattle.and_cells.specs.Seen.{word_at}
 use Rattle.and_cell_laws.proofs.Images.{contains_origin}
 use Rattle.and_cell_laws.proofs.Structures.{node_term_shape}
 use Rattle.and_branch_laws.specs.Settling.{widened, IsWritten}
+use Rattle.and_branch_laws.specs.OwnVariables.{IsLoaded}
+use Rattle.and_branch_laws.specs.Kept.{node_item_at}
+use Rattle.and_branch_laws.proofs.Clauses.{clause_weighs_more, number_is}
+use Rattle.and_branch_laws.proofs.Naming.{variables_fit}
 use Rattle.and_branch_laws.proofs.Rows.{widened_words}
-use Rattle.and_moved_laws.specs.KeptFrames.{IsInFrame, NamesFrame, NamesFrames}
+use Rattle.and_moved_laws.specs.KeptFrames.{frame_of_goal, IsInFrame, NamesFrame, NamesFrames}
 
 -- ---- Nodes
 
@@ -39,6 +45,25 @@ pub node_named : (P : NamedProgram) (frames : List Frame) (f : Frame) → Contai
     → ((v : Path × ℕ) → Contains (variables_of (node_term P.skeleton.nodes node)) v → IsInFrame (base + 1 + v.1) f)
     → NamesFrame P frames (part_at P base node)
 node_named P frames f h base node begins inside cells = resolved_named P frames f h base node (begins, inside, cells) (shape_at P.skeleton node)
+
+-- as one of a clause does in the clause's frame,
+pub own_node_named : (P : NamedProgram) (frames : List Frame) (c base node : ℕ)
+    → Contains frames (record { base = base; weight = clause_weight (clause_at P.program c) })
+    → ((v : Path × ℕ) → Contains (variables_of (node_term P.skeleton.nodes node)) v → v.1 < (clause_at P.program c).variables)
+    → NamesFrame P frames (part_at P base node)
+own_node_named P frames c base node h own =
+    let fit = variables_fit (clause_at P.program c) in
+    node_named P frames (record { base = base; weight = clause_weight (clause_at P.program c) }) h base node refl (omega arith, omega arith)
+    (λ v i. (let o = own v i in (omega arith, omega arith)))
+
+-- and the pair of an `is` goal lies in the goal's.
+pub own_pair_named : (P : NamedProgram) → IsLoaded P → (frames : List Frame) (g : Goal) (left right pair : ℕ)
+    → g.clause.0 ≤ length P.program.clauses → node_item_at P g ≡ Skeletons.is left right pair → Contains frames (frame_of_goal P g)
+    → NamesFrame P frames (Number (pair_of P g.clause.0 g.base pair))
+own_pair_named P loaded frames g left right pair there node h =
+    let low = (number_is P loaded g.clause.0 there g.item left right pair node).1 in
+    let weighs = clause_weighs_more (clause_at P.program g.clause.0) in
+    (frame_of_goal P g, h, (omega arith, omega arith), (omega arith, omega arith))
 
 -- a variable of an argument is one of the structure's
 argument_variable : (ts : List Term) (ns : List ℕ) (n : ℕ) (v : Path × ℕ) → Contains ns n → Contains (variables_of (nth ts n)) v

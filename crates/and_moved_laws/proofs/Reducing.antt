@@ -35,7 +35,7 @@ use Rattle.and_branch_laws.proofs.Stepping
 use Rattle.and_branch_laws.proofs.Widening.{widened_length, free_behind}
 use Rattle.and_moved_laws.specs.Parts.{moving, IsPartOf, NamesTogether, IsGoalOfPart, goal_moved, framed_moved}
 use Rattle.and_moved_laws.specs.KeptFrames.{Fill, frame_of_goal, NamesFrames, MovesWhole}
-use Rattle.and_moved_laws.specs.KeptParts.{PartKept, framed_at}
+use Rattle.and_moved_laws.specs.KeptParts.{PartKept, GrewBeside, framed_at}
 use Rattle.and_moved_laws.proofs.Frames.{names_together, behind_whole}
 use Rattle.and_moved_laws.proofs.Judging.{call_moved}
 use Rattle.and_moved_laws.proofs.KeptParts.{kept_goal}
@@ -235,20 +235,36 @@ module _ (P : NamedProgram) (loaded : IsLoaded P) (rs : List Reduction) (frames 
     ]
   ]
 
+  -- which grew beside the part,
+  grew : (s : later) → GrewBeside k.at k.at k.whole s.0
+  grew s =
+      let settled : Settled P (widened k.whole w) s.0 (under (moving k.at) (reduction_in_cells P.program f.goal c (length part))) = s.2 in
+      let keeps = settled.keeps in record {
+        stays = refl;
+        grows = record {
+          longer = let words = keeps.words in let l = widened_length k.whole w in omega arith;
+          set = λ p r set. keeps.knows p r (widened_words k.whole w p ∙ set.0, set.1);
+        };
+        others = λ p nowhere. s.3 p nowhere ∙ widened_words k.whole w p;
+      }
+
   -- and so does the part's.
-  pub reduced_kept : PartKept P (rs ++ reduction_by f.goal c (weight tree) ∷ [])
+  pub reduced_kept : (l : PartKept P (rs ++ reduction_by f.goal c (weight tree) ∷ [])
       (frames ++ record { base = length part; weight = clause_weight (clause_at P.program c) } ∷ []) new
       (front ++ (map (framed_at (length part)) (body_goals c (weight tree) (f.frame ++ f.goal.item ∷ []) 0 (clause_at P.program c).body) ++ back))
-      (reduce tree o c of_it)
-  reduced_kept = record {
-    at = k.at;
-    whole = settled_there.0;
-    is_part = settled_there.1;
-    keeps = whole_reduced settled_there;
-    fill = filled_now;
-    names = names;
-    moves = moves_now;
-    stays = k.stays;
-    query = Contains-append_left frames (last ∷ []) (record { base = 0; weight = clause_weight P.program.query }) k.query;
-    framed = goal_framed_now;
-  }
+      (reduce tree o c of_it)) × GrewBeside k.at l.at k.whole l.whole
+  reduced_kept = (
+    record {
+      at = k.at;
+      whole = settled_there.0;
+      is_part = settled_there.1;
+      keeps = whole_reduced settled_there;
+      fill = filled_now;
+      names = names;
+      moves = moves_now;
+      stays = k.stays;
+      query = Contains-append_left frames (last ∷ []) (record { base = 0; weight = clause_weight P.program.query }) k.query;
+      framed = goal_framed_now;
+    },
+    grew settled_there,
+  )

@@ -24,7 +24,7 @@ use Rattle.and_laws.proofs.Ordered.{middle_has, middle_more}
 use Rattle.and_laws.proofs.Substitutions.{apply_ground}
 use Rattle.and_cells.specs.Ranges.{NamedProgram, CanHold, pair_of}
 use Rattle.and_cells.specs.Rows.{IsSound}
-use Rattle.and_cells.specs.Seen.{word_at}
+use Rattle.and_cells.specs.Seen.{word_at, Grows}
 use Rattle.and_cells.specs.Meaning.{IsSettled, equations_of}
 use Rattle.and_cells.specs.Solved.{IsMostGeneral}
 use Rattle.and_cell_laws.proofs.Circles.{circles_have_no_solution, halves_have_no_term}
@@ -46,7 +46,7 @@ use Rattle.and_branch_laws.proofs.Running
 use Rattle.and_branch_laws.proofs.Speaking.{speaks_variable, speaks_applied}
 use Rattle.and_moved_laws.specs.Parts.{moved, moving, MovesTogether, IsTogether, IsPartOf, NamesTogether, framed_moved}
 use Rattle.and_moved_laws.specs.KeptFrames.{Fill, frame_of_goal, NamesFrames}
-use Rattle.and_moved_laws.specs.KeptParts.{PartKept}
+use Rattle.and_moved_laws.specs.KeptParts.{PartKept, GrewBeside}
 use Rattle.and_moved_laws.proofs.Frames.{names_together}
 use Rattle.and_moved_laws.proofs.Filling.{Origin, origin, filled, filled_length, filled_here, filled_elsewhere, part_filled}
 use Rattle.and_moved_laws.proofs.Moving.{free_in_part}
@@ -122,7 +122,7 @@ module _ (P : NamedProgram) (loaded : IsLoaded P) (rs : List Reduction) (frames 
       omega arith
 
   -- Its words are moved with the frame.
-  first_moves : (nl nr num : ℕ) → node_item_at P f.goal ≡ Skeletons.is nl nr num
+  pub first_moves : (nl nr num : ℕ) → node_item_at P f.goal ≡ Skeletons.is nl nr num
       → k.at (pair_of P f.goal.clause.0 f.goal.base num) ≡ pair_of P f.goal.clause.0 (k.at f.goal.base) num
   first_moves nl nr num node =
       let w = pair_inside nl nr num node in
@@ -131,7 +131,7 @@ module _ (P : NamedProgram) (loaded : IsLoaded P) (rs : List Reduction) (frames 
       let same : k.at (pair_of P f.goal.clause.0 f.goal.base num) ≡ k.at (f.goal.base + n) = ap k.at (omega arith) in
       omega arith
 
-  second_moves : (nl nr num : ℕ) → node_item_at P f.goal ≡ Skeletons.is nl nr num
+  pub second_moves : (nl nr num : ℕ) → node_item_at P f.goal ≡ Skeletons.is nl nr num
       → k.at (suc (pair_of P f.goal.clause.0 f.goal.base num)) ≡ suc (pair_of P f.goal.clause.0 (k.at f.goal.base) num)
   second_moves nl nr num node =
       let w = pair_inside nl nr num node in
@@ -173,23 +173,26 @@ module _ (P : NamedProgram) (loaded : IsLoaded P) (rs : List Reduction) (frames 
   -- A comparison that holds is dropped.
   pub comparison_keeps : (r : Relation) (a b u v : Term) → item_at P.program f.goal ≡ arithmetic (compare r a b)
       → IsRead P part f.goal.base a u → IsRead P part f.goal.base b v → is_ground u ≡ true → is_ground v ≡ true
-      → holds r u v ≡ true → PartKept P rs frames part (front ++ back) tree
-  comparison_keeps r a b u v item one other first second is_true = record {
-    at = k.at;
-    whole = k.whole;
-    is_part = k.is_part;
-    keeps = subst (λ (l : List Framed). Kept P rs k.whole l tree) (sym (map-append (framed_moved k.at) front back))
-        (Asking.comparison_keeps P loaded rs k.whole (M front) (framed_moved k.at f) (M back) tree split r a b u v item
-        (reads_there P loaded rs frames part all tree k f f_kept a u (left_near P loaded rs frames part all tree k f f_kept r a b item) one first)
-        (reads_there P loaded rs frames part all tree k f f_kept b v (right_near P loaded rs frames part all tree k f f_kept r a b item) other second)
-        first second is_true);
-    fill = k.fill;
-    names = k.names;
-    moves = k.moves;
-    stays = k.stays;
-    query = k.query;
-    framed = still_framed;
-  }
+      → holds r u v ≡ true → (l : PartKept P rs frames part (front ++ back) tree) × GrewBeside k.at l.at k.whole l.whole
+  comparison_keeps r a b u v item one other first second is_true = (
+    record {
+      at = k.at;
+      whole = k.whole;
+      is_part = k.is_part;
+      keeps = subst (λ (l : List Framed). Kept P rs k.whole l tree) (sym (map-append (framed_moved k.at) front back))
+          (Asking.comparison_keeps P loaded rs k.whole (M front) (framed_moved k.at f) (M back) tree split r a b u v item
+          (reads_there P loaded rs frames part all tree k f f_kept a u (left_near P loaded rs frames part all tree k f f_kept r a b item) one first)
+          (reads_there P loaded rs frames part all tree k f f_kept b v (right_near P loaded rs frames part all tree k f f_kept r a b item) other second)
+          first second is_true);
+      fill = k.fill;
+      names = k.names;
+      moves = k.moves;
+      stays = k.stays;
+      query = k.query;
+      framed = still_framed;
+    },
+    record { stays = refl; grows = record { longer = omega arith; set = λ p q set. set }; others = λ p nowhere. refl },
+  )
 
   module _ (l r u : Term) (z : ℤ) (nl nr num : ℕ) (item : item_at P.program f.goal ≡ arithmetic (is l r))
       (node : node_item_at P f.goal ≡ Skeletons.is nl nr num) (read : IsRead P part f.goal.base r u) (ground : is_ground u ≡ true)
@@ -376,19 +379,34 @@ module _ (P : NamedProgram) (loaded : IsLoaded P) (rs : List Reduction) (frames 
           × ((p : ℕ) → ((c : ℕ) → k.at c ≡ p → ⊥) → word_at row p ≡ word_at mid p)
       settled_there = settling_of_parts P k.at written mid new asked part_mid mid_sound mid_settled asked_speaks x together_now
 
-      pub assignment_keeps : PartKept P rs frames new (front ++ back) tree
-      assignment_keeps = record {
-        at = k.at;
-        whole = settled_there.0;
-        is_part = settled_there.1;
-        keeps = subst (λ (fs : List Framed). Kept P rs settled_there.0 fs tree) (sym (map-append (framed_moved k.at) front back))
-            (Asking.assignment_keeps P loaded rs k.whole (M front) (framed_moved k.at f) (M back) tree split l r u z nl nr num item node read_whole ground
-            valued mid mid_sound mid_written settled_there.0
-            (subst (λ (es : List Equation). Settled P mid settled_there.0 es) asked_there settled_there.2));
-        fill = filled_now;
-        names = names;
-        moves = k.moves;
-        stays = k.stays;
-        query = k.query;
-        framed = still_framed;
-      }
+      -- (the pair was free, so that what was set stays)
+      grows_there : Grows k.whole settled_there.0
+      grows_there =
+          let keeps = settled_there.2.keeps in
+          let free = Asking.pair_is_free P rs k.whole (M front ++ framed_moved k.at f ∷ M back) tree split (framed_moved k.at f) whole_kept nl nr num node in
+          record {
+            longer = let words = keeps.words in let l = mid_length in omega arith;
+            set = λ p q set.
+                let other : (m : ℕ) → word_at k.whole m ≡ Free → p ≢ m = λ m empty e. set.1 (sym set.0 ∙ ap (word_at k.whole) e ∙ empty) in
+                keeps.knows p q (mid_written.others p (other pair_there free.0) (other (suc pair_there) free.1) ∙ set.0, set.1);
+          }
+
+      pub assignment_keeps : (l : PartKept P rs frames new (front ++ back) tree) × GrewBeside k.at l.at k.whole l.whole
+      assignment_keeps = (
+        record {
+          at = k.at;
+          whole = settled_there.0;
+          is_part = settled_there.1;
+          keeps = subst (λ (fs : List Framed). Kept P rs settled_there.0 fs tree) (sym (map-append (framed_moved k.at) front back))
+              (Asking.assignment_keeps P loaded rs k.whole (M front) (framed_moved k.at f) (M back) tree split l r u z nl nr num item node read_whole ground
+              valued mid mid_sound mid_written settled_there.0
+              (subst (λ (es : List Equation). Settled P mid settled_there.0 es) asked_there settled_there.2));
+          fill = filled_now;
+          names = names;
+          moves = k.moves;
+          stays = k.stays;
+          query = k.query;
+          framed = still_framed;
+        },
+        record { stays = refl; grows = grows_there; others = λ p nowhere. settled_there.3 p nowhere ∙ elsewhere p nowhere },
+      )

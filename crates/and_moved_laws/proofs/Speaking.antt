@@ -3,9 +3,8 @@ use Rattle.std.proofs.Common.{ℕ, ◌+◌, ◌≡◌, ◌<◌, List, [], ◌∷
 use Rattle.std.proofs.Common.{Contains}
 use Rattle.std.specs.Prelude.{All}
 use Rattle.std.proofs.lemmas.List.{map-append}
-use Rattle.std.proofs.lemmas.List.Elements.{All-contains}
 use Rattle.and_model.specs.Terms.{Path, Term, Substitution, variables_of, apply}
-use Rattle.and_model.specs.Trees.{QueryTree, equations}
+use Rattle.and_model.specs.Trees.{QueryTree}
 use Rattle.and_model.specs.Reached.{ReachedBy}
 use Rattle.and_model.specs.Lines.{goal_term}
 use Rattle.and_model.specs.Reductions.{Reduction}
@@ -23,19 +22,20 @@ use Rattle.and_cells.specs.Meaning.{StandsFor}
 use Rattle.and_cells.proofs.OneTerm.{apply_agree}
 use Rattle.and_cell_laws.proofs.Images.{contains_image, contains_origin}
 use Rattle.and_branch_laws.specs.OwnVariables.{IsLoaded}
-use Rattle.and_branch_laws.specs.Tasks.{Task, tasks, calls_among, arithmetic_among}
+use Rattle.and_branch_laws.specs.Tasks.{Task, arithmetic_among}
 use Rattle.and_branch_laws.specs.Views.{View, IsReadIn, branch_of, StandsIn}
 use Rattle.and_branch_laws.specs.Kept.{task_of, goal_of, calls_kept, arithmetic_kept}
 use Rattle.and_branch_laws.proofs.Lists.{all_of}
-use Rattle.and_branch_laws.proofs.Reading.{mapped, below_cases, calls_are, arithmetic_are, goals_first, first_contains}
+use Rattle.and_branch_laws.proofs.Reading.{mapped, below_cases, arithmetic_are, goals_first, first_contains}
 use Rattle.and_branch_laws.proofs.Reading.{row_reading, goal_read, query_read, tree_solution, solved_general, read_variants}
-use Rattle.and_branch_laws.proofs.Tasks.{ran_calls, tasks_calls, tree_ran}
+use Rattle.and_branch_laws.proofs.Tasks.{tree_ran}
 use Rattle.and_moved_laws.specs.Parts.{moving, framed_moved}
 use Rattle.and_moved_laws.specs.KeptParts.{PartKept, PartKeptIn}
 use Rattle.and_moved_laws.proofs.Extending.{drawn}
 use Rattle.and_moved_laws.proofs.KeptParts.{kept_goal, query_there}
 use Rattle.and_moved_laws.proofs.Backward.{cell_back, variants_back}
 use Rattle.and_moved_laws.proofs.MovedGoals.{tasks_same, first_moved}
+use Rattle.and_moved_laws.proofs.PartGoals.{goal_placed, calls_of_tree}
 
 -- ---- What is read
 
@@ -130,11 +130,6 @@ module _ (P : NamedProgram) (loaded : IsLoaded P) (rs : List Reduction) (frames 
 
   -- ---- The live branch
 
-  kept_framed : (f : Framed) → Contains kept f → IsFramed rs f
-  kept_framed f h =
-      let w = k.keeps in
-      All-contains (IsFramed rs) M (framed_moved k.at f) w.framed (contains_image (framed_moved k.at) kept f h)
-
   pub live : (v : View) → v.reductions ≡ rs → map goal_of (calls_kept P.program kept) ≡ v.goals
       → map goal_of (arithmetic_kept P.program kept) ≡ v.waiting → IsLive P.program (branch_of v part_reading) tree
   live v is_rs goals waiting =
@@ -147,9 +142,8 @@ module _ (P : NamedProgram) (loaded : IsLoaded P) (rs : List Reduction) (frames 
         goals_are = goals;
         waiting_are = waiting;
         framed = subst (λ (l : List Reduction). All (IsFramed l) (goals_first P.program kept)) (sym is_rs)
-            (all_of (IsFramed rs) (goals_first P.program kept) (λ f c. kept_framed f (first_contains P.program kept f c)));
-        calls = calls_are P.program kept ∙ ap calls_among (sym same_tasks) ∙ ran_calls (equations tree) (tasks tree) w.solved left w.ran
-            ∙ tasks_calls tree;
+            (all_of (IsFramed rs) (goals_first P.program kept) (λ f c. goal_placed P rs frames part kept tree k f (first_contains P.program kept f c)));
+        calls = calls_of_tree P rs frames part kept tree k;
         solved = w.solved;
         waits = arithmetic_among left;
         ran = tree_ran tree w.solved left w.ran;

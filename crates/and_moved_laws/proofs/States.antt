@@ -49,7 +49,9 @@ module _ (P : NamedProgram) (loaded : IsLoaded P) (rs : List Reduction) (frames 
       candidate_there P k.at part k.whole k.is_part f.goal (kept_goal P loaded.own rs frames part kept tree k f h) w.sound w.settled c x
 
   pub here : (f : Framed) → Contains kept f → (c : ℕ) → CandidateInCells P k.whole (goal_moved k.at f.goal) c → CandidateInCells P part f.goal c
-  here f h c x = candidate_here P k.at part k.whole k.is_part f.goal (kept_goal P loaded.own rs frames part kept tree k f h) c x
+  here f h c x =
+      let o = kept_goal P loaded.own rs frames part kept tree k f h in
+      candidate_here P k.at part k.whole k.is_part f.goal o.together c x
 
   -- and so are sole ones.
   pub sole_there : (f : Framed) → Contains kept f → (c : ℕ) → SoleInCells P part f.goal c → SoleInCells P k.whole (goal_moved k.at f.goal) c

@@ -1,9 +1,10 @@
 -- The frames of a branch fill its row.
-use Rattle.std.proofs.Common.{ℕ, ◌+◌, ◌≡◌, ◌<◌, ◌≤◌, List, [], ◌∷◌, ◌++◌, refl, sym, ap, subst, inl, inr, arith}
+use Rattle.std.proofs.Common.{ℕ, ◌+◌, ◌≡◌, ◌<◌, ◌≤◌, List, [], ◌∷◌, ◌++◌, refl, sym, ap, ◌∙◌, subst, inl, inr, arith}
 use Rattle.std.proofs.Common.{Contains}
-use Rattle.std.specs.Prelude.{AllPairs}
+use Rattle.std.specs.Prelude.{AllPairs, All, ◌↔◌}
 use Rattle.std.proofs.lemmas.Bool.{cases_lt}
-use Rattle.std.proofs.lemmas.List.Elements.{All-contains}
+use Rattle.std.proofs.lemmas.List.Elements.{All-contains, Contains-append_left, Contains-append_right, Contains-append_cases}
+use Rattle.std.proofs.lemmas.List.Kept.{AllPairs-cons}
 use Rattle.and_model.specs.Programs.{Program, clause_at, clause_weight}
 use Rattle.and_model.specs.Trees.{QueryTree, query_agenda, weight, reduce}
 use Rattle.and_model.specs.Reductions.{Reduction, Makes, none, one_more}
@@ -12,18 +13,19 @@ use Rattle.and_model.specs.Store.{Frame}
 use Rattle.and_model.specs.declared.reference.Ref.{Ref}
 use Rattle.and_laws.proofs.Order.{blank_weighs, reduce_weight, clause_weighs}
 use Rattle.and_laws.proofs.Ordered.{contains_first, contains_more, contains_cases, contains_none, middle_has, middle_more}
-use Rattle.and_laws.proofs.Pairwise.{all_pairs_first, all_pairs_rest}
+use Rattle.and_laws.proofs.Pairwise.{all_pairs_none, all_pairs_first, all_pairs_rest, all_pairs_join}
 use Rattle.and_cells.specs.Ranges.{NamedProgram}
 use Rattle.and_branch_laws.specs.OwnVariables.{OwnVariables}
 use Rattle.and_branch_laws.specs.Kept.{Kept}
 use Rattle.and_branch_laws.proofs.Keeping
-use Rattle.and_branch_laws.proofs.Places.{frame_within, frames_apart, clause_more}
+use Rattle.and_branch_laws.proofs.Lists.{all_of}
+use Rattle.and_branch_laws.proofs.Places.{frame_within, frames_apart, clause_more, clause_cases}
 use Rattle.and_moved_laws.specs.KeptFrames.{AreFrames, Fill, frame_of_goal, IsInFrame}
 
 -- ---- Frames that fill a row
 
 -- They begin at the place or behind it,
-fill_behind : (from : ℕ) (fs : List Frame) (words : ℕ) → Fill from fs words → (f : Frame) → Contains fs f → from ≤ f.base
+pub fill_behind : (from : ℕ) (fs : List Frame) (words : ℕ) → Fill from fs words → (f : Frame) → Contains fs f → from ≤ f.base
 fill_behind from [] words x f h = absurd (contains_none f h)
 fill_behind from (g ∷ fs) words x f h = elim (contains_cases g f fs h) [
   | inl e ↦ let same : f.base ≡ g.base = ap (λ (y : Frame). y.base) e in let b = x.0 in omega arith
@@ -117,6 +119,81 @@ place_in_frame P rs t (one_more front back all u r o k old taken_call number is_
         omega (arith, low, number, grows),
       )
     ]
+
+-- These are the frames of such a tree.
+abbrev AreOf : (P : Program) (rs : List Reduction) → List Frame → Type 0
+AreOf P rs frames = (f : Frame) → Contains frames f ↔ ((c : ℕ) × ClauseHas rs f.base c × (f.weight ≡ clause_weight (clause_at P c)))
+
+frame_is : (f g : Frame) → f.base ≡ g.base → f.weight ≡ g.weight → f ≡ g
+frame_is f g bases weights = λ i. record { base = bases i; weight = weights i }
+
+-- The tree has them, in the order of its row.
+frames_of_tree : (P : Program) (rs : List Reduction) (t : QueryTree P) → Makes P rs t
+    → (frames : List Frame) × AllPairs (λ (f g : Frame). f.base < g.base) frames × AreOf P rs frames
+frames_of_tree P rs t none =
+    let q : Frame = record { base = 0; weight = clause_weight P.query } in
+    let R : Frame → Frame → Type 0 = λ f g. f.base < g.base in (
+      q ∷ [],
+      AllPairs-cons R q [] (all_of (R q) [] (λ f h. absurd (contains_none f h))) (all_pairs_none R),
+      λ f. (
+        λ h. elim (contains_cases q f [] h) [
+          | inl e ↦ (0, inl (ap (λ (x : Frame). x.base) e, refl), ap (λ (x : Frame). x.weight) e)
+          | inr i ↦ absurd (contains_none f i)
+        ],
+        λ x. elim x.1 [
+          | inl a ↦
+              let e : f ≡ q = frame_is f q a.0 (x.2 ∙ ap (λ (c : ℕ). clause_weight (clause_at P c)) a.1) in
+              subst (λ (y : Frame). Contains (q ∷ []) y) (sym e) (contains_first q [])
+          | inr y ↦ absurd (contains_none y.0 y.1)
+        ],
+      ),
+    )
+frames_of_tree P rs t (one_more front back all u r o k old taken_call number is_all) =
+    let (frames, rising, are) = frames_of_tree P (front ++ back) u old in
+    let R : Frame → Frame → Type 0 = λ f g. f.base < g.base in
+    let last : Frame = record { base = r.node; weight = clause_weight (clause_at P r.clause) } in
+    let below : (f : Frame) → Contains frames f → f.base < r.node = λ f h.
+    let (c, has, weighs) = (are f).0 h in
+    let w = frame_within P (front ++ back) u old f.base c has in
+    let some = clause_weighs (clause_at P c) in
+    let e = number in
+    omega arith in
+    let more : (y : Reduction) → Contains (front ++ back) y → Contains all y =
+    λ y i. subst (λ l. Contains l y) (sym is_all) (middle_more front back r y i) in (
+      frames ++ last ∷ [],
+      all_pairs_join R frames (last ∷ []) rising
+          (AllPairs-cons R last [] (all_of (R last) [] (λ f h. absurd (contains_none f h))) (all_pairs_none R))
+          (all_of (λ (f : Frame). All (R f) (last ∷ [])) frames (λ f h. all_of (R f) (last ∷ []) (λ g i. elim (contains_cases last g [] i) [
+            | inl e ↦ (let same : g.base ≡ r.node = ap (λ (x : Frame). x.base) e in let l = below f h in omega arith)
+            | inr j ↦ absurd (contains_none g j)
+          ]))),
+      λ f. (
+        λ h. elim (Contains-append_cases frames (last ∷ []) f h) [
+          | inl i ↦ let (c, has, weighs) = (are f).0 i in (c, clause_more (front ++ back) all more f.base c has, weighs)
+          | inr i ↦ elim (contains_cases last f [] i) [
+            | inl e ↦ (
+              r.clause,
+              inr (r, subst (λ l. Contains l r) (sym is_all) (middle_has front back r), sym (ap (λ (x : Frame). x.base) e), refl),
+              ap (λ (x : Frame). x.weight) e,
+            )
+            | inr j ↦ absurd (contains_none f j)
+          ]
+        ],
+        λ x. elim (clause_cases front back r f.base x.0 (subst (λ l. ClauseHas l f.base x.0) is_all x.1)) [
+          | inl e ↦
+              let same : f ≡ last = frame_is f last e.0 (x.2 ∙ ap (λ (c : ℕ). clause_weight (clause_at P c)) e.1) in
+              subst (λ (y : Frame). Contains (frames ++ last ∷ []) y) (sym same)
+              (Contains-append_right frames (last ∷ []) last (contains_first last []))
+          | inr i ↦ Contains-append_left frames (last ∷ []) f ((are f).1 (x.0, i, x.2))
+        ],
+      ),
+    )
+
+pub some_frames : (P : NamedProgram) (rs : List Reduction) (tree : QueryTree P.program) → Makes P.program rs tree
+    → (frames : List Frame) × AreFrames P rs frames
+some_frames P rs tree made =
+    let (frames, rising, each) = frames_of_tree P.program rs tree made in
+    (frames, record { rising = rising; each = each })
 
 -- Frames that rise, lie apart and cover the row fill it.
 covers_fill : (from : ℕ) (fs : List Frame) (words : ℕ) → AllPairs (λ (f g : Frame). f.base < g.base) fs

@@ -76,6 +76,16 @@ pub record AreKept (frames : List Frame) (row : List Ref) (goals : List Goal) (k
   pub rising : AllPairs (λ (f g : Frame). f.base < g.base) kept
   pub each : (f : Frame) → Contains kept f ↔ IsKept frames row goals f
 
+-- These of the frames are enough: the query's is among them, that of each goal, and each in which a set word of one of
+-- them names something. (Those that are kept are; more may stay, as those below a choicepoint.)
+pub record AreEnough (frames : List Frame) (row : List Ref) (goals : List Goal) (enough : List Frame) : Type 0 where
+  pub rising : AllPairs (λ (f g : Frame). f.base < g.base) enough
+  pub among : (f : Frame) → Contains enough f → Contains frames f
+  pub of_query : (f : Frame) → Contains frames f → f.base ≡ 0 → Contains enough f
+  pub of_goals : (f : Frame) (g : Goal) → Contains frames f → Contains goals g → f.base ≡ g.base → Contains enough f
+  pub of_words : (from f : Frame) (place to : ℕ) → Contains enough from → IsInFrame place from
+      → Names (word_at row place) to → Contains frames f → IsInFrame to f → Contains enough f
+
 -- ---- The row of kept frames
 
 -- how many words these frames have

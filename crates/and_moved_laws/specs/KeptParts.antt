@@ -7,6 +7,7 @@ use Rattle.and_model.specs.Stands.{Framed}
 use Rattle.and_model.specs.Store.{Frame}
 use Rattle.and_model.specs.declared.reference.Ref.{Ref}
 use Rattle.and_cells.specs.Ranges.{NamedProgram}
+use Rattle.and_cells.specs.Seen.{word_at, Grows}
 use Rattle.and_branch_laws.specs.Views.{View}
 use Rattle.and_branch_laws.specs.Kept.{goal_of, calls_kept, arithmetic_kept, Kept}
 use Rattle.and_moved_laws.specs.Parts.{IsPartOf, framed_moved}
@@ -28,6 +29,13 @@ pub record PartKept (P : NamedProgram) (rs : List Reduction) (frames : List Fram
   pub stays : at 0 ≡ 0
   pub query : Contains frames (record { base = 0; weight = clause_weight P.program.query })
   pub framed : (f : Framed) → Contains kept f → Contains frames (frame_of_goal P f.goal)
+
+-- The whole row grew beside the part: each place of the part is where it was, what was set stays, and of the words that
+-- are not the part's none was set. (So a step of a branch leaves it.)
+pub record GrewBeside (at later_at : ℕ → ℕ) (whole later : List Ref) : Type 0 where
+  pub stays : later_at ≡ at
+  pub grows : Grows whole later
+  pub others : (p : ℕ) → ((c : ℕ) → at c ≡ p → ⊥) → word_at later p ≡ word_at whole p
 
 -- the goal in the frame at the base
 abbrev pub framed_at : (base : ℕ) → Framed → Framed

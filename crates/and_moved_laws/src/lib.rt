@@ -8,27 +8,28 @@
 ghost use Rattle.std.specs.Prelude.{ℕ, ℤ, suc, true, false, ◌+◌, ◌<◌, ◌≤◌, ◌≡◌, ◌≢◌, ◌↔◌, List, [], ◌∷◌};
 ghost use Rattle.std.specs.Prelude.{◌++◌, map, length, replicate, AllPairs, Contains, Option, Some, None};
 ghost use Rattle.and_model.specs.Terms.{Path, Term, number, variables_of, is_ground, apply};
-ghost use Rattle.and_model.specs.Solutions.{Equation, Solvable};
+ghost use Rattle.and_model.specs.Solutions.{Equation, Solvable, Entails};
 ghost use Rattle.and_model.specs.Arithmetic.{Relation, value, holds};
-ghost use Rattle.and_model.specs.Programs.{fail, arithmetic, is, compare, Of, clause_at, clause_weight};
+ghost use Rattle.and_model.specs.Programs.{fail, arithmetic, Arithmetic, is, compare, Of, clause_at, clause_weight};
+ghost use Rattle.and_model.specs.Closure.{Ran};
 ghost use Rattle.and_model.specs.Trees.{QueryTree, weight, Open, path, call_of, reduce};
-ghost use Rattle.and_model.specs.Trees.{query_agenda, blank};
+ghost use Rattle.and_model.specs.Trees.{query_agenda, blank, equations, arithmetics, Closed};
 ghost use Rattle.and_model.specs.Reductions.{Reduction, Makes};
-ghost use Rattle.and_model.specs.Reached.{Step, Dead, ReachedBy};
+ghost use Rattle.and_model.specs.Reached.{CandidateOf, Step, Dead, Shut, ReachedBy};
 ghost use Rattle.and_model.specs.Lines.{line};
 ghost use Rattle.and_model.specs.Listing.{outcome_of, Ends};
-ghost use Rattle.and_model.specs.Stands.{Framed, term_of};
+ghost use Rattle.and_model.specs.Stands.{Framed, IsFramed, term_of, in_tree, calls_left};
 ghost use Rattle.and_model.specs.Store.{Frame, is_half};
 ghost use Rattle.and_model.specs.declared.limits.TheConstants.{MAX_WORDS};
 ghost use Rattle.and_model.specs.declared.goal.Goal.{Goal};
 ghost use Rattle.and_model.specs.declared.reference.Ref.{Ref};
 ghost use Rattle.and_program.specs.Skeletons;
 ghost use Rattle.and_program.specs.Skeletons.{node_term, AllFall};
-ghost use Rattle.and_cells.specs.Ranges.{NamedProgram, pair_of};
-ghost use Rattle.and_cells.specs.Rows.{IsSound};
+ghost use Rattle.and_cells.specs.Ranges.{NamedProgram, IsGoalInRange, pair_of};
+ghost use Rattle.and_cells.specs.Rows.{IsSound, OnlySet};
 ghost use Rattle.and_cells.specs.Parts.{part_at, parts_of};
-ghost use Rattle.and_cells.specs.Seen.{word_at};
-ghost use Rattle.and_cells.specs.Meaning.{StandsFor, IsSettled, equations_of};
+ghost use Rattle.and_cells.specs.Seen.{word_at, IsSetTo, Grows};
+ghost use Rattle.and_cells.specs.Meaning.{StandsFor, IsSettled, equations_of, shallow_cells};
 ghost use Rattle.and_laws.specs.Naming.{under};
 ghost use Rattle.and_branch_laws.specs.Variables.{EquationsSpeakOf, IsWholeCell, placed};
 ghost use Rattle.and_branch_laws.specs.Settling.{widened, Settled, IsWritten};
@@ -38,18 +39,19 @@ ghost use Rattle.and_branch_laws.specs.Judging.{CandidateInCells, SoleInCells, N
 ghost use Rattle.and_branch_laws.specs.Judging.{EachHasTwo, NoCall};
 ghost use Rattle.and_branch_laws.specs.States.{Fits, IsFirst, determinate, over_one, over_all, fork};
 ghost use Rattle.and_branch_laws.specs.States.{floundered, answer, StateOf};
-ghost use Rattle.and_branch_laws.specs.Kept.{item_at, node_item_at, Kept, goal_of, IsCall};
-ghost use Rattle.and_branch_laws.specs.Kept.{arithmetic_kept};
+ghost use Rattle.and_branch_laws.specs.Tasks.{arithmetic_among};
+ghost use Rattle.and_branch_laws.specs.Kept.{item_at, node_item_at, task_of, Kept, Unsettled, goal_of, IsCall};
+ghost use Rattle.and_branch_laws.specs.Kept.{HasFreePair, calls_kept, arithmetic_kept};
 ghost use Rattle.and_branch_laws.specs.Reducing.{body_equations, reduction_in_cells, reduction_by, body_goals};
 ghost use Rattle.and_branch_laws.specs.Views.{View, StandsIn};
 ghost use Rattle.and_branch_laws.specs.Lines.{LineIsRead};
 ghost use Rattle.and_moved_laws.specs.Parts.{moved, moving, IsTogether, IsPartOf, NamesTogether};
 ghost use Rattle.and_moved_laws.specs.Parts.{MovesTogether, IsGoalOfPart, goal_moved, framed_moved};
 ghost use Rattle.and_moved_laws.specs.KeptFrames.{AreFrames, Fill, frame_of_goal, NamesFrame, NamesFrames};
-ghost use Rattle.and_moved_laws.specs.KeptFrames.{IsInFrame, AreKept};
+ghost use Rattle.and_moved_laws.specs.KeptFrames.{IsInFrame, AreKept, AreEnough};
 ghost use Rattle.and_moved_laws.specs.KeptFrames.{raised, lowered, frame_lowered, side_by_side, MovesWhole};
 ghost use Rattle.and_moved_laws.specs.KeptFrames.{frame_moved};
-ghost use Rattle.and_moved_laws.specs.KeptParts.{PartKept, framed_at, PartKeptIn};
+ghost use Rattle.and_moved_laws.specs.KeptParts.{PartKept, GrewBeside, framed_at, PartKeptIn};
 
 /// Parts of parts: a row is part of itself, with each place where it is, and a part of a part is
 /// a part. Where free words are put behind a part, as many are put behind the whole row.
@@ -106,11 +108,15 @@ pub fn settling_of_parts()
 
 /// Candidates of parts: a goal whose frame was moved together has just the candidates in the part
 /// that it has, at its base there, in the whole row. (What the whole row has besides takes nothing
-/// away: it is settled, so that each of its cells has a term, whatever the free cells are.)
+/// away: it is settled, so that each of its cells has a term, whatever the free cells are.) That
+/// those there are candidates here asks nothing of its cells.
 pub fn candidates_of_parts()
-    ensures { (P : NamedProgram) (at : ℕ → ℕ) (part whole : List Ref) (g : Goal) (c : ℕ)
+    ensures same { (P : NamedProgram) (at : ℕ → ℕ) (part whole : List Ref) (g : Goal) (c : ℕ)
         → IsPartOf P at part whole → IsSound P whole → IsSettled P whole → IsGoalOfPart P at part g
         → CandidateInCells P part g c ↔ CandidateInCells P whole (goal_moved at g) c }
+    ensures here { (P : NamedProgram) (at : ℕ → ℕ) (part whole : List Ref) (g : Goal) (c : ℕ)
+        → IsPartOf P at part whole → MovesTogether at g.base (term_of P.program g)
+        → CandidateInCells P whole (goal_moved at g) c → CandidateInCells P part g c }
 {}
 
 /// Reads of parts: a term of a clause, in a frame that was moved together, reads in the whole row
@@ -142,10 +148,12 @@ pub fn lines_of_parts()
         × (line P.program w.terms w.waits ≡ line P.program r.terms r.waits) }
 {}
 
-/// Frames fill rows: those of a tree that reductions make fill a row as long as the tree weighs, and
-/// each goal that is kept has its frame among them; with a frame more behind, they fill the longer
-/// row.
+/// Frames fill rows: a tree that reductions make has its frames, which fill a row as long as the tree
+/// weighs, and each goal that is kept has its frame among them; with a frame more behind, they fill
+/// the longer row.
 pub fn frames_fill_rows()
+    ensures some { (P : NamedProgram) (rs : List Reduction) (t : QueryTree P.program) → Makes P.program rs t
+        → (frames : List Frame) × AreFrames P rs frames }
     ensures tree { (P : NamedProgram) (rs : List Reduction) (t : QueryTree P.program) (frames : List Frame)
         → Makes P.program rs t → AreFrames P rs frames → Fill 0 frames (weight t) }
     ensures goals { (P : NamedProgram) (rs : List Reduction) (row : List Ref) (kept : List Framed)
@@ -156,30 +164,30 @@ pub fn frames_fill_rows()
 {}
 
 /// Kept frames are part: where frames fill a row, and its words name what lies in them, those that
-/// are kept, side by side, are part of the row. Each is moved whole; they fill their row, and its
-/// words name what lies in them, so that frames of this row can be dropped again. The query's frame
-/// stays where it is, and each goal is moved with its frame.
+/// are kept, and others that may stay with them, side by side, are part of the row. Each is moved
+/// whole; they fill their row, and its words name what lies in them, so that frames of this row can
+/// be dropped again. The query's frame stays where it is, and each goal is moved with its frame.
 pub fn kept_frames_are_part()
     ensures part { (P : NamedProgram) (row : List Ref) (goals : List Goal) (frames kept : List Frame)
-        → IsSound P row → Fill 0 frames (length row) → NamesFrames P frames row → AreKept frames row goals kept
+        → IsSound P row → Fill 0 frames (length row) → NamesFrames P frames row → AreEnough frames row goals kept
         → IsPartOf P (raised kept (length row)) (side_by_side kept row) row }
     ensures moved { (P : NamedProgram) (row : List Ref) (goals : List Goal) (frames kept : List Frame) (f : Frame)
-        → IsSound P row → Fill 0 frames (length row) → NamesFrames P frames row → AreKept frames row goals kept
+        → IsSound P row → Fill 0 frames (length row) → NamesFrames P frames row → AreEnough frames row goals kept
         → Contains kept f → MovesWhole (raised kept (length row)) (frame_lowered kept f)
         × (frame_moved (raised kept (length row)) (frame_lowered kept f) ≡ f) }
     ensures fill { (P : NamedProgram) (row : List Ref) (goals : List Goal) (frames kept : List Frame)
-        → IsSound P row → Fill 0 frames (length row) → NamesFrames P frames row → AreKept frames row goals kept
+        → IsSound P row → Fill 0 frames (length row) → NamesFrames P frames row → AreEnough frames row goals kept
         → Fill 0 (map (frame_lowered kept) kept) (length (side_by_side kept row)) }
     ensures names { (P : NamedProgram) (row : List Ref) (goals : List Goal) (frames kept : List Frame)
-        → IsSound P row → Fill 0 frames (length row) → NamesFrames P frames row → AreKept frames row goals kept
+        → IsSound P row → Fill 0 frames (length row) → NamesFrames P frames row → AreEnough frames row goals kept
         → NamesFrames P (map (frame_lowered kept) kept) (side_by_side kept row) }
     ensures query { (P : NamedProgram) (row : List Ref) (goals : List Goal) (frames kept : List Frame) (f : Frame)
         (n : ℕ) → IsSound P row → Fill 0 frames (length row) → NamesFrames P frames row
-        → AreKept frames row goals kept → Contains frames f → f.base ≡ 0 → n < f.weight
+        → AreEnough frames row goals kept → Contains frames f → f.base ≡ 0 → n < f.weight
         → raised kept (length row) n ≡ n }
     ensures goals { (P : NamedProgram) (row : List Ref) (goals : List Goal) (frames kept : List Frame) (g : Goal)
         → OwnVariables P → IsSound P row → Fill 0 frames (length row) → NamesFrames P frames row
-        → AreKept frames row goals kept → Contains goals g → Contains frames (frame_of_goal P g)
+        → AreEnough frames row goals kept → Contains goals g → Contains frames (frame_of_goal P g)
         → ((v : Path × ℕ) → Contains (variables_of (term_of P.program g)) v
         → is_half (word_at row (g.base + 1 + v.1)) ≡ false)
         → IsGoalOfPart P (raised kept (length row)) (side_by_side kept row) (goal_moved (lowered kept) g)
@@ -203,8 +211,25 @@ pub fn frames_of_parts()
         → MovesWhole at (record { base = length part; weight = weight }) }
 {}
 
-/// Naming frames: a node that is found in a frame names what lies in it, and so do the parts of a
-/// structure that does. What lies in some frames lies in more; free words behind a row, and a number
+/// Frames below stay: where all frames that begin below a place are among those that stay, each place
+/// below it stays where it is. So an earlier row, whose frames all stay, can be had again of the row
+/// side by side as it could of the whole one: by setting the same cells free again.
+pub fn frames_below_stay()
+    ensures places { (P : NamedProgram) (row : List Ref) (goals : List Goal) (frames kept : List Frame) (low p : ℕ)
+        → IsSound P row → Fill 0 frames (length row) → NamesFrames P frames row → AreEnough frames row goals kept
+        → ((f : Frame) → Contains frames f → f.base < low → Contains kept f) → p < low → p < length row
+        → (lowered kept p ≡ p) × (raised kept (length row) p ≡ p) }
+    ensures again { (P : NamedProgram) (first row : List Ref) (cells : List ℕ) (goals : List Goal)
+        (early frames kept : List Frame) → IsSound P first → Fill 0 early (length first)
+        → NamesFrames P early first → IsSound P row → Fill 0 frames (length row) → NamesFrames P frames row
+        → AreEnough frames row goals kept
+        → ((f : Frame) → Contains frames f → f.base < length first → Contains kept f) → OnlySet cells first row
+        → OnlySet cells first (side_by_side kept row) }
+{}
+
+/// Naming frames: a node that is found in a frame names what lies in it, as one of a clause does in
+/// the clause's frame, and the pair of an `is` goal in the goal's; and so do the parts of a structure
+/// that does. What lies in some frames lies in more; free words behind a row, and a number
 /// that is written into it, name nothing. (So it is kept by whatever sets words to what was asked,
 /// or to parts of that.)
 pub fn naming_frames()
@@ -212,6 +237,15 @@ pub fn naming_frames()
         → f.base ≡ base → IsInFrame base f
         → ((v : Path × ℕ) → Contains (variables_of (node_term P.skeleton.nodes node)) v → IsInFrame (base + 1 + v.1) f)
         → NamesFrame P frames (part_at P base node) }
+    ensures own { (P : NamedProgram) (frames : List Frame) (clause base node : ℕ)
+        → Contains frames (record { base = base; weight = clause_weight (clause_at P.program clause) })
+        → ((v : Path × ℕ) → Contains (variables_of (node_term P.skeleton.nodes node)) v
+        → v.1 < (clause_at P.program clause).variables)
+        → NamesFrame P frames (part_at P base node) }
+    ensures number { (P : NamedProgram) (frames : List Frame) (g : Goal) (left right pair : ℕ) → IsLoaded P
+        → g.clause.0 ≤ length P.program.clauses → node_item_at P g ≡ Skeletons.is left right pair
+        → Contains frames (frame_of_goal P g)
+        → NamesFrame P frames (Ref.Number (pair_of P g.clause.0 g.base pair)) }
     ensures parts { (P : NamedProgram) (frames : List Frame) (r q : Ref) → AllFall 0 P.skeleton.nodes
         → NamesFrame P frames r → Contains (parts_of P r) q → NamesFrame P frames q }
     ensures more { (P : NamedProgram) (frames others : List Frame) (row : List Ref)
@@ -223,13 +257,15 @@ pub fn naming_frames()
 {}
 
 /// One list of kept frames: of frames that rise some list has just those that are kept, in order,
-/// and two such lists are the same.
+/// and two such lists are the same. They are enough.
 pub fn one_list_of_kept_frames()
     ensures some { (frames : List Frame) (row : List Ref) (goals : List Goal)
         → AllPairs (λ (f g : Frame). f.base < g.base) frames
         → (kept : List Frame) × AreKept frames row goals kept }
     ensures one { (frames : List Frame) (row : List Ref) (goals : List Goal) (kept others : List Frame)
         → AreKept frames row goals kept → AreKept frames row goals others → kept ≡ others }
+    ensures enough { (frames : List Frame) (row : List Ref) (goals : List Goal) (kept : List Frame)
+        → AreKept frames row goals kept → AreEnough frames row goals kept }
 {}
 
 // ---- Branches whose row is a part
@@ -253,57 +289,148 @@ pub fn whole_rows_are_parts()
         → AreFrames P rs frames → NamesFrames P frames row → PartKept P rs frames row kept t }
 {}
 
-/// Dropping keeps: a branch whose row is a part can drop the frames that nothing names, and move
-/// the others down side by side with its goals: it keeps of its tree what it kept.
+/// Goals of parts are the tree's: the reductions make the tree, and the kept goals stand at its places; the kept calls
+/// are its open goals, one behind the other, and the kept arithmetic is what was not run of its own.
+pub fn goals_of_parts_are_the_trees()
+    ensures made { (P : NamedProgram) (rs : List Reduction) (frames : List Frame) (part : List Ref)
+        (kept : List Framed) (t : QueryTree P.program) → PartKept P rs frames part kept t → Makes P.program rs t }
+    ensures framed { (P : NamedProgram) (rs : List Reduction) (frames : List Frame) (part : List Ref)
+        (kept : List Framed) (t : QueryTree P.program) (f : Framed) → PartKept P rs frames part kept t
+        → Contains kept f → IsFramed rs f }
+    ensures calls { (P : NamedProgram) (rs : List Reduction) (frames : List Frame) (part : List Ref)
+        (kept : List Framed) (t : QueryTree P.program) → PartKept P rs frames part kept t
+        → map (λ (f : Framed). (f.frame ++ f.goal.item ∷ [], in_tree P.program f)) (calls_kept P.program kept)
+        ≡ calls_left t }
+    ensures arithmetic { (P : NamedProgram) (rs : List Reduction) (frames : List Frame) (part : List Ref)
+        (kept : List Framed) (t : QueryTree P.program) (k : PartKept P rs frames part kept t)
+        → Ran (equations t) (arithmetics t) k.keeps.solved (arithmetic_among (map (task_of P.program) kept)) }
+    ensures open { (P : NamedProgram) (rs : List Reduction) (frames : List Frame) (part : List Ref)
+        (kept : List Framed) (t : QueryTree P.program) (f : Framed) → OwnVariables P
+        → PartKept P rs frames part kept t → Contains kept f → IsCall P.program f
+        → (o : Open t) × (path t o ≡ f.frame ++ f.goal.item ∷ []) × (call_of t o ≡ in_tree P.program f) }
+{}
+
+/// Goals of parts can be judged and run: the part is sound and settled, and has no more words than the tree weighs;
+/// each kept goal is in range, no cell of its variables is a word of a pair, and its own pair is free. That pair was
+/// moved with the goal, so that no word of the part names it where none of the whole row does.
+pub fn goals_of_parts_can_be_seen()
+    ensures row { (P : NamedProgram) (rs : List Reduction) (frames : List Frame) (part : List Ref)
+        (kept : List Framed) (t : QueryTree P.program) → PartKept P rs frames part kept t
+        → IsSound P part × IsSettled P part × (length part ≤ weight t) }
+    ensures in_range { (P : NamedProgram) (rs : List Reduction) (frames : List Frame) (part : List Ref)
+        (kept : List Framed) (t : QueryTree P.program) (f : Framed) → IsLoaded P
+        → PartKept P rs frames part kept t → Contains kept f → IsGoalInRange P (length part) f.goal }
+    ensures whole { (P : NamedProgram) (rs : List Reduction) (frames : List Frame) (part : List Ref)
+        (kept : List Framed) (t : QueryTree P.program) (f : Framed) (v : Path × ℕ) → OwnVariables P
+        → PartKept P rs frames part kept t → Contains kept f → Contains (variables_of (term_of P.program f.goal)) v
+        → is_half (word_at part (f.goal.base + 1 + v.1)) ≡ false }
+    ensures free { (P : NamedProgram) (rs : List Reduction) (frames : List Frame) (part : List Ref)
+        (kept : List Framed) (t : QueryTree P.program) (f : Framed) → IsLoaded P
+        → PartKept P rs frames part kept t → Contains kept f
+        → HasFreePair P part f.goal (node_item_at P f.goal) }
+    ensures pair { (P : NamedProgram) (rs : List Reduction) (frames : List Frame) (part : List Ref)
+        (kept : List Framed) (t : QueryTree P.program) (f : Framed) (left right pair : ℕ) → IsLoaded P
+        → (k : PartKept P rs frames part kept t) → Contains kept f
+        → node_item_at P f.goal ≡ Skeletons.is left right pair
+        → (k.at (pair_of P f.goal.clause.0 f.goal.base pair) ≡ pair_of P f.goal.clause.0 (k.at f.goal.base) pair)
+        × (k.at (suc (pair_of P f.goal.clause.0 f.goal.base pair))
+        ≡ suc (pair_of P f.goal.clause.0 (k.at f.goal.base) pair)) }
+    ensures unnamed { (P : NamedProgram) (at : ℕ → ℕ) (part whole : List Ref) (place : ℕ)
+        → IsPartOf P at part whole
+        → ((by : ℕ) (r : Ref) → IsSetTo whole by r → is_half r ≡ false → Contains (shallow_cells P r) (at place) → ⊥)
+        → (by : ℕ) (r : Ref) → IsSetTo part by r → is_half r ≡ false → Contains (shallow_cells P r) place → ⊥ }
+{}
+
+/// Nothing dropped is whole: a part that has as many words as its tree weighs has all frames, each where it is, and
+/// the branch keeps what one does that never dropped any. (So it can go into a phase, whose laws speak of such a one.)
+pub fn nothing_dropped_is_whole()
+    ensures { (P : NamedProgram) (rs : List Reduction) (frames : List Frame) (part : List Ref) (kept : List Framed)
+        (t : QueryTree P.program) → PartKept P rs frames part kept t → length part ≡ weight t
+        → Kept P rs part kept t }
+{}
+
+/// Settling keeps parts: where what a phase left of a branch, of which nothing was dropped, is settled, and its words
+/// name what lies in the frames, it is again one whose row is part of its whole one. (That its tree is dead where there
+/// is no solution, says the law of settling itself.)
+pub fn settling_keeps_parts()
+    ensures { (P : NamedProgram) (rs : List Reduction) (row new : List Ref) (es : List Equation) (kept : List Framed)
+        (t : QueryTree P.program) (frames : List Frame) → IsLoaded P → Unsettled P rs row es kept t
+        → Settled P row new es → AreFrames P rs frames → NamesFrames P frames new → PartKept P rs frames new kept t }
+{}
+
+/// Dropping keeps: a branch whose row is a part can drop frames that nothing names, all or some, and
+/// move the others down side by side with its goals: it keeps of its tree what it kept, and its row
+/// is part of the same whole one.
 pub fn dropping_keeps()
     ensures { (P : NamedProgram) (rs : List Reduction) (frames : List Frame) (part : List Ref) (kept : List Framed)
-        (t : QueryTree P.program) (chosen : List Frame) → OwnVariables P → PartKept P rs frames part kept t
-        → AreKept frames part (map goal_of kept) chosen
-        → PartKept P rs (map (frame_lowered chosen) chosen) (side_by_side chosen part)
-        (map (framed_moved (lowered chosen)) kept) t }
+        (t : QueryTree P.program) (chosen : List Frame) → OwnVariables P → (k : PartKept P rs frames part kept t)
+        → AreEnough frames part (map goal_of kept) chosen
+        → (l : PartKept P rs (map (frame_lowered chosen) chosen) (side_by_side chosen part)
+        (map (framed_moved (lowered chosen)) kept) t)
+        × (l.whole ≡ k.whole) × ((p : ℕ) → l.at p ≡ k.at (raised chosen (length part) p)) }
+{}
+
+/// Later rows of fewer frames: what the row side by side grows to, by steps that leave the rest of the
+/// whole row, is part of what the row before grows to, which has the dropped frames as they were. (So
+/// what is known of all such later rows of a branch is known of them where frames were dropped.)
+pub fn later_rows_of_fewer_frames()
+    ensures { (P : NamedProgram) (rs : List Reduction) (frames : List Frame) (part : List Ref) (kept : List Framed)
+        (t : QueryTree P.program) (chosen : List Frame) (later whole : List Ref) (more : List Frame) → OwnVariables P
+        → (k : PartKept P rs frames part kept t) → AreEnough frames part (map goal_of kept) chosen
+        → IsPartOf P (λ (p : ℕ). k.at (raised chosen (length part) p)) later whole
+        → GrewBeside (λ (p : ℕ). k.at (raised chosen (length part) p))
+        (λ (p : ℕ). k.at (raised chosen (length part) p)) k.whole whole
+        → Grows (side_by_side chosen part) later
+        → Fill 0 (map (frame_lowered chosen) chosen ++ more) (length later)
+        → NamesFrames P (map (frame_lowered chosen) chosen ++ more) later
+        → (larger : List Ref) × (others : List Frame) × IsPartOf P (raised chosen (length part)) later larger
+        × IsPartOf P k.at larger whole × GrewBeside k.at k.at k.whole whole × Grows part larger
+        × Fill 0 (frames ++ others) (length larger) × NamesFrames P (frames ++ others) larger }
 {}
 
 /// Reductions keep parts: where a kept call is reduced by a clause, whose frame is put behind the
 /// part, and the part is settled with what that asks of the cells, it keeps the body's goals in the
-/// place of the call, at the new frame's base. Their place in the tree is what the tree weighs.
+/// place of the call, at the new frame's base. Their place in the tree is what the tree weighs. The
+/// whole row grows beside the part.
 pub fn reductions_keep_parts()
     ensures { (P : NamedProgram) (rs : List Reduction) (frames : List Frame) (part new : List Ref)
         (front : List Framed) (f : Framed) (back : List Framed) (t : QueryTree P.program) (o : Open t) (c : ℕ)
-        (of_it : Of P.program (call_of t o) c) → IsLoaded P → PartKept P rs frames part (front ++ f ∷ back) t
+        (of_it : Of P.program (call_of t o) c) → IsLoaded P → (k : PartKept P rs frames part (front ++ f ∷ back) t)
         → IsCall P.program f → path t o ≡ f.frame ++ f.goal.item ∷ []
         → weight t + clause_weight (clause_at P.program c) ≤ MAX_WORDS
         → Settled P (widened part (clause_weight (clause_at P.program c))) new
         (reduction_in_cells P.program f.goal c (length part))
         → NamesFrames P (frames ++ record { base = length part; weight = clause_weight (clause_at P.program c) } ∷ [])
         new
-        → PartKept P (rs ++ reduction_by f.goal c (weight t) ∷ [])
+        → (l : PartKept P (rs ++ reduction_by f.goal c (weight t) ∷ [])
         (frames ++ record { base = length part; weight = clause_weight (clause_at P.program c) } ∷ []) new
         (front ++ (map (framed_at (length part))
         (body_goals c (weight t) (f.frame ++ f.goal.item ∷ []) 0 (clause_at P.program c).body) ++ back))
-        (reduce t o c of_it) }
+        (reduce t o c of_it)) × GrewBeside k.at l.at k.whole l.whole }
 {}
 
 /// Runs keep parts: where the terms that a kept goal of arithmetic needs read in the part as ground
 /// terms, a comparison that holds is dropped; and an `is` goal with a value is, where this was
-/// written into its pair, which was free, and its left side was settled with it.
+/// written into its pair, which was free, and its left side was settled with it. The whole row grows
+/// beside the part.
 pub fn runs_keep_parts()
     ensures comparison { (P : NamedProgram) (rs : List Reduction) (frames : List Frame) (part : List Ref)
         (front : List Framed) (f : Framed) (back : List Framed) (t : QueryTree P.program)
-        (r : Relation) (a b u v : Term) → IsLoaded P → PartKept P rs frames part (front ++ f ∷ back) t
+        (r : Relation) (a b u v : Term) → IsLoaded P → (k : PartKept P rs frames part (front ++ f ∷ back) t)
         → item_at P.program f.goal ≡ arithmetic (compare r a b)
         → IsRead P part f.goal.base a u → IsRead P part f.goal.base b v
         → is_ground u ≡ true → is_ground v ≡ true → holds r u v ≡ true
-        → PartKept P rs frames part (front ++ back) t }
+        → (l : PartKept P rs frames part (front ++ back) t) × GrewBeside k.at l.at k.whole l.whole }
     ensures assignment { (P : NamedProgram) (rs : List Reduction) (frames : List Frame) (part written new : List Ref)
         (front : List Framed) (f : Framed) (back : List Framed) (t : QueryTree P.program)
         (l r u : Term) (z : ℤ) (left right pair : ℕ) → IsLoaded P
-        → PartKept P rs frames part (front ++ f ∷ back) t
+        → (k : PartKept P rs frames part (front ++ f ∷ back) t)
         → item_at P.program f.goal ≡ arithmetic (is l r)
         → node_item_at P f.goal ≡ Skeletons.is left right pair
         → IsRead P part f.goal.base r u → is_ground u ≡ true → value u ≡ Some z
         → IsWritten part written (pair_of P f.goal.clause.0 f.goal.base pair) z
         → Settled P written new ((placed f.goal.base l, number z) ∷ []) → NamesFrames P frames new
-        → PartKept P rs frames new (front ++ back) t }
+        → (m : PartKept P rs frames new (front ++ back) t) × GrewBeside k.at m.at k.whole m.whole }
     ensures pair_is_free { (P : NamedProgram) (rs : List Reduction) (frames : List Frame) (part : List Ref)
         (kept : List Framed) (f : Framed) (t : QueryTree P.program) (left right pair : ℕ) → IsLoaded P
         → PartKept P rs frames part kept t → Contains kept f → node_item_at P f.goal ≡ Skeletons.is left right pair
@@ -361,6 +488,24 @@ pub fn dead_parts()
         (of_it : Of P.program (call_of t o) c) → IsLoaded P → PartKept P rs frames part (front ++ f ∷ back) t
         → IsCall P.program f → path t o ≡ f.frame ++ f.goal.item ∷ []
         → Contains (clause_at P.program c).body fail → Dead (reduce t o c of_it) }
+{}
+
+/// Closed where none of a part is ground: where no kept arithmetic reads as ground terms in the part, what was solved
+/// is the tree's closure, and the candidates in the part are those under it.
+pub fn closed_where_none_of_a_part_is_ground()
+    ensures closed { (P : NamedProgram) (rs : List Reduction) (frames : List Frame) (part : List Ref)
+        (kept : List Framed) (t : QueryTree P.program) (k : PartKept P rs frames part kept t) (es : List Equation)
+        (gs : List Arithmetic) → IsLoaded P → NoneIsGround P part kept → Closed t es gs
+        → Entails es k.keeps.solved × Entails k.keeps.solved es
+        × (gs ≡ arithmetic_among (map (task_of P.program) kept)) }
+    ensures candidates { (P : NamedProgram) (rs : List Reduction) (frames : List Frame) (part : List Ref)
+        (kept : List Framed) (t : QueryTree P.program) (es : List Equation) (gs : List Arithmetic) (f : Framed)
+        (o : Open t) (c : ℕ) → IsLoaded P → PartKept P rs frames part kept t → NoneIsGround P part kept
+        → Closed t es gs → Contains kept f → IsCall P.program f → path t o ≡ f.frame ++ f.goal.item ∷ []
+        → CandidateInCells P part f.goal c ↔ CandidateOf t es o c }
+    ensures shut { (P : NamedProgram) (rs : List Reduction) (frames : List Frame) (part : List Ref)
+        (kept : List Framed) (t : QueryTree P.program) → IsLoaded P → PartKept P rs frames part kept t
+        → NoneIsGround P part kept → EachHasTwo P part kept → Shut t }
 {}
 
 /// States of parts: where no kept arithmetic reads as ground terms, what the calls' candidates in

@@ -1,6 +1,9 @@
 use Rattle.and_moved_laws.proofs.Tiling
 use Rattle.and_moved_laws.proofs.frames_fill_rows.Goals as goal
 
+pub returns-clause-some : goal.returns-clause-some
+returns-clause-some c = λ P rs t made. Tiling.some_frames P rs t made
+
 pub returns-clause-tree : goal.returns-clause-tree
 returns-clause-tree c = λ P rs t frames made all. Tiling.tree_filled P rs t made frames all
 

@@ -4,6 +4,12 @@ use Rattle.and_moved_laws.proofs.naming_frames.Goals as goal
 pub returns-clause-node : goal.returns-clause-node
 returns-clause-node c = λ P frames f base node h begins inside cells. Naming.node_named P frames f h base node begins inside cells
 
+pub returns-clause-own : goal.returns-clause-own
+returns-clause-own c = λ P frames clause base node h own. Naming.own_node_named P frames clause base node h own
+
+pub returns-clause-number : goal.returns-clause-number
+returns-clause-number c = λ P frames g left right pair loaded there node h. Naming.own_pair_named P loaded frames g left right pair there node h
+
 pub returns-clause-parts : goal.returns-clause-parts
 returns-clause-parts c = λ P frames r q fall names h. Naming.part_named P frames r q fall names h
 
