@@ -8,3 +8,4 @@ pub mod NotedSteps
 pub mod NumbersSet
 mod SettledAsked
 mod TakenHeads
+mod Writing

@@ -22,7 +22,7 @@ use Rattle.and_unify.specs.Meeting.{MeetFree}
 use Rattle.and_unify.specs.Pairs.{AreInRange, AreWritten, NameNoHalf}
 use Rattle.and_unify.specs.Running.{Runs, start, stepped}
 use Rattle.and_unify.specs.Setting.{HaveBeenSet}
-use Rattle.and_unify.specs.Settling.{AreNewFrom, EndsFrom, Settles}
+use Rattle.and_unify.specs.Settling.{AreNewFrom, EndsFrom, Settles, SetsPlaces}
 use Rattle.and_unify.specs.Turns as turns
 use Rattle.and_unify.specs.declared.unifying.Unified.TheVariants as unified
 use Rattle.and_unify.specs.Places.{sides, IsPlace}
@@ -32,7 +32,7 @@ use Rattle.and_unify.proofs.DescentKept.{Held, same_end}
 use Rattle.and_unify.proofs.DescentRuns.{held_asked}
 use Rattle.and_unify.proofs.SettlingTerms.{Binds, binds}
 use Rattle.and_unify.proofs.SettlingSeen.{ends_above}
-use Rattle.and_unify.proofs.SettlingDone.{have_been_set, judged}
+use Rattle.and_unify.proofs.SettlingDone.{have_been_set, sets_places, judged}
 use Rattle.and_reduction.specs.Asked.{the_pair}
 use Rattle.and_reduction.specs.Trails.{Noted, KeepsNoted, AreNoted}
 use Rattle.and_reduction.proofs.NotedSteps.{settling_noted, settles_less}
@@ -105,6 +105,10 @@ module _ (P : NamedProgram) (row new : List Ref) (left : Ref) (cell pair floor :
   -- What is noted is noted still.
   pub number_noted : (old later : Noted) → AreNoted old later (cell ∷ []) → KeepsNoted old later row new
   number_noted old later are = settling_noted old later (cell ∷ []) row new been_set are
+
+  -- What was set is something to which the row and the pair led.
+  pub number_places : SetsPlaces P row new asked
+  number_places = sets_places P row new asked (cell ∷ []) made
 
   -- The row is settled with the number.
   pub number_settles : IsSettled P row → NameNoHalf P (word_at row) asked → AreNewFrom P row asked floor → IsSound P new → (answer : Answer)

@@ -3,3 +3,4 @@ pub mod Asked
 pub mod Items
 pub mod Sides
 pub mod Trails
+pub mod Writes

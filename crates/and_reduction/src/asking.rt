@@ -11,6 +11,7 @@ ghost use Rattle.and_cells.specs.Ranges.{IsNodeInRange};
 ghost use Rattle.and_cells.specs.Parts.{named};
 ghost use Rattle.and_cells.specs.Seen.{word_at};
 ghost use Rattle.and_unify.specs.Pairs.{equations_of_pairs};
+ghost use Rattle.and_unify.specs.Places.{sides};
 ghost use Rattle.and_branch_laws.specs.Reducing.{body_equations};
 ghost use Rattle.and_branch_laws.specs.Variables.{placed};
 ghost use Rattle.and_branch_laws.specs.Goals.{CanBeJudged, IsNodeOf};
@@ -18,6 +19,7 @@ ghost use Rattle.and_step_laws.specs.Asking.{AreReady, Ask, CanBeAsked};
 ghost use Rattle.and_step_laws.specs.Frames.{IsFrame};
 ghost use Rattle.and_heads.specs.Calls.{call_and_head};
 ghost use Rattle.and_reduction.specs.Items.{AreItemsOf, AsksNothing};
+ghost use Rattle.and_reduction.specs.Writes.{AskNodes};
 
 use and_cells::{Naming, PlainCells};
 use and_model::{ClauseNo, Goal, NodeNo};
@@ -136,6 +138,7 @@ pub(crate) fn ask_items<N: Naming>(
         (equations_of_pairs N.program (word_at cells.now) pairs.old ++ body_equations (placed floor)
         (clause_at N.program.program _clause.0).body) }
     ensures failing { result ≡ Ok false → Contains (clause_at N.program.program _clause.0).body fail }
+    ensures nodes { result ≡ Ok true → AskNodes N.program floor (sides pairs.old) pairs.new }
 {
     loaded.skeleton_is_of_the_program();
     for item in items {
@@ -163,6 +166,7 @@ fn ask_item<N: Naming>(
         → Ask N.program cells.now floor pairs.new (equations_of_pairs N.program (word_at cells.now) pairs.old
         ++ body_equations (placed floor) (item_of N.program.skeleton.nodes (node_item item) ∷ [])) }
     ensures failing { result ≡ Ok false → item ≡ ItemNode.Fail }
+    ensures nodes { result ≡ Ok true → AskNodes N.program floor (sides pairs.old) pairs.new }
 {
     match item {
         ItemNode::Equal { left, right } => {
@@ -198,9 +202,10 @@ fn ask_equal<N: Naming>(
     requires program { N.program ≡ named loaded.now }
     requires item { CanBeAsked N.program cells.now floor (equal left.0 right.0) }
     requires ready { AreReady N.program cells.now floor pairs.old }
-    ensures { OnOk result (Ask N.program cells.now floor pairs.new
+    ensures asked { OnOk result (Ask N.program cells.now floor pairs.new
         (equations_of_pairs N.program (word_at cells.now) pairs.old
         ++ body_equations (placed floor) (item_of N.program.skeleton.nodes (equal left.0 right.0) ∷ []))) }
+    ensures nodes { OnOk result (AskNodes N.program floor (sides pairs.old) pairs.new) }
 {
     loaded.skeleton_is_of_the_program();
     let left = loaded.resolve(left, floor);

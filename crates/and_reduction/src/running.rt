@@ -19,6 +19,7 @@ ghost use Rattle.and_step_laws.specs.Runs.{CanBeRun, IsWaiting, WaitsFor, HasRun
 ghost use Rattle.and_reduction.specs.Asked.{the_pair};
 ghost use Rattle.and_reduction.specs.Sides.{AssignsTo, IsComparison, RunsTo};
 ghost use Rattle.and_reduction.specs.Trails.{KeepsNoted};
+ghost use Rattle.and_reduction.specs.Writes.{SetsByRun, SetsNumber};
 
 use crate::settling::settle_number;
 use crate::sides::{compare_numbers, compare_sides};
@@ -63,6 +64,7 @@ pub fn run<N: Naming>(
     ensures done { result ≡ Ok Ran.Done → HasRun N.program cells.old cells.new goal }
     ensures fails { result ≡ Ok Ran.False → CannotHold N.program cells.old goal }
     ensures noted { OnOk result (KeepsNoted trail.old trail.new cells.old cells.new) }
+    ensures sets { OnOk result (SetsByRun N.program cells.old cells.new goal) }
 {
     let item = runnable_item(loaded, cells, goal);
     run_item(loaded, cells, goal, item, trail, tools)
@@ -84,6 +86,7 @@ pub fn run_item<N: Naming>(
     requires item { IsRunnable N.program cells.old goal (node_item item) }
     ensures ran { IfOk result (RunsTo N.program cells.old cells.new goal) }
     ensures noted { OnOk result (KeepsNoted trail.old trail.new cells.old cells.new) }
+    ensures sets { OnOk result (SetsByRun N.program cells.old cells.new goal) }
 {
     match item {
         ItemNode::Compare {
@@ -230,6 +233,7 @@ fn run_assignment<N: Naming>(
     requires item { Assigns N.program cells.old goal left.0 right.0 pair }
     ensures ran { IfOk result (RunsTo N.program cells.old cells.new goal) }
     ensures noted { OnOk result (KeepsNoted trail.old trail.new cells.old cells.new) }
+    ensures sets { OnOk result (SetsByRun N.program cells.old cells.new goal) }
 {
     if let Some(value) = number_at_once(loaded, cells, goal.base, right) {
         let first = pair_in(loaded, goal.clause, goal.base, pair);
@@ -296,6 +300,7 @@ fn assign<N: Naming>(
     requires goal { CanBeAssigned N.program cells.old base node.0 pair }
     ensures assigned { IfOk result (AssignsTo N.program cells.old cells.new base node.0 pair value) }
     ensures noted { OnOk result (KeepsNoted trail.old trail.new cells.old cells.new) }
+    ensures sets { OnOk result (SetsNumber N.program cells.old cells.new base node.0 pair) }
 {
     ask_number(loaded, cells, base, node, pair, value);
     let words = cells.len();
@@ -327,6 +332,7 @@ fn assign_seldom<N: Naming>(
     requires goal { CanBeAssigned N.program cells.old base node.0 pair }
     ensures assigned { IfOk result (AssignsTo N.program cells.old cells.new base node.0 pair value) }
     ensures noted { OnOk result (KeepsNoted trail.old trail.new cells.old cells.new) }
+    ensures sets { OnOk result (SetsNumber N.program cells.old cells.new base node.0 pair) }
 {
     assign(loaded, cells, base, node, pair, value, trail, tools)
 }

@@ -9,7 +9,7 @@ ghost use Rattle.and_cells.specs.Ranges.{IsInRange, IsInRangeOrHalf, IsNodeInRan
 ghost use Rattle.and_cells.specs.Rows.{plain, IsSound};
 ghost use Rattle.and_cells.specs.Seen.{word_at, IsWrittenIfNumber, LeadsTo};
 ghost use Rattle.and_unify.specs.Pairs.{AreInRange, AreWritten, NameNoHalf};
-ghost use Rattle.and_unify.specs.Settling.{AreNewFrom, Settles};
+ghost use Rattle.and_unify.specs.Settling.{AreNewFrom, Settles, SetsPlaces};
 ghost use Rattle.and_unify.specs.declared.settling.Settled.TheVariants.{Memory, NoSolution};
 ghost use Rattle.and_heads.specs.Calls.{call_and_head};
 ghost use Rattle.and_reduction.specs.Trails.{AreNoted, KeepsNoted};
@@ -40,6 +40,7 @@ pub(crate) fn settle_noted<N: Naming>(
     requires new { AreNewFrom N.program cells.old tools.old.pairs floor }
     ensures settles { Settles N.program cells.old cells.new tools.old.pairs result }
     ensures noted { result ≢ Memory → KeepsNoted trail.old trail.new cells.old cells.new }
+    ensures places { SetsPlaces N.program cells.old cells.new tools.old.pairs }
 {
     let answer = tools
         .solver
@@ -73,6 +74,8 @@ pub(crate) fn settle_call_noted<N: Naming>(
     ensures settles { Settles N.program cells.old cells.new
         (call_and_head N.program base call.0 floor head.0) result }
     ensures noted { result ≢ Memory → KeepsNoted trail.old trail.new cells.old cells.new }
+    ensures places { SetsPlaces N.program cells.old cells.new
+        (call_and_head N.program base call.0 floor head.0) }
 {
     let answer = tools
         .solver
@@ -108,6 +111,8 @@ pub(crate) fn settle_number<N: Naming>(
     ensures settles { Settles N.program cells.old cells.new (the_pair (part_at N.program base node.0) (Ref.Number pair))
         result }
     ensures noted { result ≢ Memory → KeepsNoted trail.old trail.new cells.old cells.new }
+    ensures places { SetsPlaces N.program cells.old cells.new
+        (the_pair (part_at N.program base node.0) (Ref.Number pair)) }
 {
     loaded.skeleton_is_of_the_program();
     let _words = cells.len();
@@ -143,6 +148,8 @@ fn settle_pair<N: Naming>(
     ensures settles { Settles N.program cells.old cells.new (the_pair (part_at N.program base node.0) (Ref.Number pair))
         result }
     ensures noted { result ≢ Memory → KeepsNoted trail.old trail.new cells.old cells.new }
+    ensures places { SetsPlaces N.program cells.old cells.new
+        (the_pair (part_at N.program base node.0) (Ref.Number pair)) }
 {
     loaded.skeleton_is_of_the_program();
     let left = loaded.resolve(node, base);

@@ -1,16 +1,17 @@
 //! Clauses that are entered: the query, and a clause that takes a call.
 
-ghost use Rattle.std.specs.Prelude.{◌≡◌, ◌≢◌, ◌≤◌, ◌+◌, ◌++◌, [], length, replicate, Ok, IfOk, OnOk};
+ghost use Rattle.std.specs.Prelude.{◌≡◌, ◌≢◌, ◌≤◌, ◌+◌, ◌++◌, [], ◌∷◌, length, replicate, Ok, IfOk, OnOk};
 ghost use Rattle.and_model.specs.Programs.{clause_at, clause_weight};
 ghost use Rattle.and_model.specs.Solutions.{Solvable};
 ghost use Rattle.and_model.specs.declared.limits.TheConstants.{MAX_LIMIT};
 ghost use Rattle.and_model.specs.declared.reference.Ref.{Ref};
 ghost use Rattle.and_cells.specs.Meaning.{IsSettled, equations_of};
-ghost use Rattle.and_cells.specs.Parts.{named};
+ghost use Rattle.and_cells.specs.Parts.{named, part_at};
 ghost use Rattle.and_cells.specs.Ranges.{IsNodeInRange};
 ghost use Rattle.and_cells.specs.Rows.{IsSound};
 ghost use Rattle.and_cells.specs.Seen.{word_at};
 ghost use Rattle.and_unify.specs.Pairs.{equations_of_pairs};
+ghost use Rattle.and_unify.specs.Places.{sides};
 ghost use Rattle.and_unify.specs.declared.settling.Settled.TheVariants.{Memory, NoSolution, Solved};
 ghost use Rattle.and_heads.specs.Calls.{call_and_head};
 ghost use Rattle.and_branch_laws.specs.Reducing.{body_equations, reduction_in_cells};
@@ -21,6 +22,7 @@ ghost use Rattle.and_step_laws.specs.Asking.{AreReady};
 ghost use Rattle.and_step_laws.specs.Frames.{IsFrame};
 ghost use Rattle.and_reduction.specs.Items.{AreItemsOf, IsHeadOf};
 ghost use Rattle.and_reduction.specs.Trails.{KeepsNoted};
+ghost use Rattle.and_reduction.specs.Writes.{SetsNodes};
 
 use crate::asking::{ask_call, ask_items, ask_nothing};
 use crate::settling::{settle_call_noted, settle_noted};
@@ -90,6 +92,8 @@ pub fn begin<N: Naming>(
     ensures unsolved { result ≡ Ok Entered.NoSolution
         → Solvable (equations_of N.program (replicate (clause_weight N.program.program.query) Ref.Free)
         ++ body_equations (placed 0) N.program.program.query.body) → ⊥ }
+    ensures nodes { OnOk result (SetsNodes N.program (replicate (clause_weight N.program.program.query) Ref.Free)
+        cells.new 0 []) }
 {
     let query = ClauseNo(0);
     // No row of a branch is longer than the greatest limit.
@@ -142,6 +146,9 @@ pub fn take<N: Naming>(
         → Solvable (equations_of N.program (widened cells.old (clause_weight (clause_at N.program.program clause.0)))
         ++ reduction_in_cells N.program.program goal clause.0 (length cells.old)) → ⊥ }
     ensures noted { OnOk result (KeepsNoted trail.old trail.new cells.old cells.new) }
+    ensures nodes { OnOk result (SetsNodes N.program
+        (widened cells.old (clause_weight (clause_at N.program.program clause.0))) cells.new (length cells.old)
+        (part_at N.program goal.base call.0 ∷ [])) }
 {
     loaded.skeleton_is_of_the_program();
     let floor = open_frame(cells, clause, weight)?;
@@ -202,6 +209,8 @@ fn settle_head<N: Naming>(
         ++ (equations_of_pairs N.program (word_at cells.old) (call_and_head N.program base call.0 floor head.0)
         ++ body_equations (placed floor) (clause_at N.program.program clause.0).body)) → ⊥ }
     ensures noted { OnOk result (KeepsNoted trail.old trail.new cells.old cells.new) }
+    ensures nodes { OnOk result (SetsNodes N.program cells.old cells.new floor
+        (part_at N.program base call.0 ∷ [])) }
 {
     if !ask_nothing(items) {
         return settle_head_and_items(
@@ -240,6 +249,8 @@ fn settle_head_and_items<N: Naming>(
         ++ (equations_of_pairs N.program (word_at cells.old) (call_and_head N.program base call.0 floor head.0)
         ++ body_equations (placed floor) (clause_at N.program.program clause.0).body)) → ⊥ }
     ensures noted { OnOk result (KeepsNoted trail.old trail.new cells.old cells.new) }
+    ensures nodes { OnOk result (SetsNodes N.program cells.old cells.new floor
+        (part_at N.program base call.0 ∷ [])) }
 {
     ask_call(loaded, cells, floor, call, base, head, &mut tools.pairs)?;
     settle_frame(loaded, cells, clause, items, floor, trail, tools)
@@ -268,6 +279,7 @@ fn settle_frame<N: Naming>(
         ++ (equations_of_pairs N.program (word_at cells.old) tools.old.pairs ++ body_equations (placed floor)
         (clause_at N.program.program clause.0).body)) → ⊥ }
     ensures noted { OnOk result (KeepsNoted trail.old trail.new cells.old cells.new) }
+    ensures nodes { OnOk result (SetsNodes N.program cells.old cells.new floor (sides tools.old.pairs)) }
 {
     if !ask_items(loaded, cells, clause, items, floor, &mut tools.pairs)? {
         return Ok(Entered::NoSolution);

@@ -19,4 +19,4 @@ returns-in_ok-ask_equal-in-Equal-clause-asked g c = λ e.
     let floor = c.args.floor in
     subst (λ i. Ask P row floor c.ask_equal.new.pairs (equations_of_pairs P (word_at row) c.args.pairs.now
     ++ body_equations (placed floor) (item_of P.skeleton.nodes (node_item i) ∷ []))) (sym c.in-Equal.is)
-    c.in_ok-ask_equal-in-Equal.ensures
+    c.in_ok-ask_equal-in-Equal.ensures.asked

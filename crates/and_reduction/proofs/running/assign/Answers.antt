@@ -81,3 +81,19 @@ returns-in-NoSolution-clause-noted g c =
     assigning_noted P c.args.trail.now c.note.new.self c.settle_number.new.trail c.args.cells.now c.ask_number.new.cells
     c.settle_number.new.cells c.args.pair (c.args.pair + 1) c.args.value (omega arith) c.requires.goal.pair_is_free asked.written
     c.in_ok-note.ensures (c.in-NoSolution.ensures.noted (λ e. absurd (cc)))
+
+pub returns-in-Solved-clause-sets : goal.returns-in-Solved-clause-sets
+returns-in-Solved-clause-sets g c = record {
+  z = _;
+  written = c.ask_number.new.cells;
+  is_written = c.ask_number.ensures.written;
+  sets = c.settle_number.ensures.places;
+}
+
+pub returns-in-NoSolution-clause-sets : goal.returns-in-NoSolution-clause-sets
+returns-in-NoSolution-clause-sets g c = record {
+  z = _;
+  written = c.ask_number.new.cells;
+  is_written = c.ask_number.ensures.written;
+  sets = c.settle_number.ensures.places;
+}

@@ -11,6 +11,7 @@ use Rattle.and_reduction.specs.Sides.{AssignsTo, RunsTo}
 use Rattle.and_reduction.specs.Trails.{KeepsNoted}
 use Rattle.and_reduction.proofs.Noting.{unchanged_noted}
 use Rattle.and_reduction.proofs.Outcomes.{waiting_runs, valueless_runs, assignment_runs}
+use Rattle.and_reduction.specs.Writes.{SetsNumber, nothing, number}
 use Rattle.and_reduction.proofs.running.run_assignment.Goals as goal
 
 pub pair_in-first-requires-clause-clause : goal.pair_in-first-requires-clause-clause
@@ -106,3 +107,33 @@ returns-in-Number-clause-noted g c =
     on_ok_weaker c.assign_seldom.result
     (subst (λ row. KeepsNoted c.args.trail.now c.assign_seldom.new.trail row c.assign_seldom.new.cells) c.evaluate.ensures.unchanged)
     c.assign_seldom.ensures.noted
+
+pub returns-in-Some-clause-sets : goal.returns-in-Some-clause-sets
+returns-in-Some-clause-sets g c =
+    let P = g.N.Naming.program in
+    let goal = c.args.goal in
+    let first = subst (λ (Q : NamedProgram). c.pair_in-first.result ≡ pair_of Q goal.clause.0 goal.base c.args.pair)
+    (sym c.requires.program) c.pair_in-first.ensures in
+    on_ok_weaker c.assign.result
+    (λ s. number c.args.left.0 c.args.right.0 c.args.pair c.requires.item.node
+    (subst (SetsNumber P c.args.cells.now c.assign.new.cells goal.base c.args.left.0) first s))
+    c.assign.ensures.sets
+
+pub returns-in-Waits-clause-sets : goal.returns-in-Waits-clause-sets
+returns-in-Waits-clause-sets g c = nothing c.evaluate.ensures.unchanged
+
+pub returns-in-NoValue-clause-sets : goal.returns-in-NoValue-clause-sets
+returns-in-NoValue-clause-sets g c = nothing c.evaluate.ensures.unchanged
+
+pub returns-in-Number-clause-sets : goal.returns-in-Number-clause-sets
+returns-in-Number-clause-sets g c =
+    let P = g.N.Naming.program in
+    let goal = c.args.goal in
+    let first = subst (λ (Q : NamedProgram). c.pair_in-first-in-Number.result ≡ pair_of Q goal.clause.0 goal.base c.args.pair)
+    (sym c.requires.program) c.pair_in-first-in-Number.ensures in
+    on_ok_weaker c.assign_seldom.result
+    (λ s. number c.args.left.0 c.args.right.0 c.args.pair c.requires.item.node
+    (subst (SetsNumber P c.args.cells.now c.assign_seldom.new.cells goal.base c.args.left.0) first
+    (subst (λ row. SetsNumber P row c.assign_seldom.new.cells goal.base c.args.left.0 c.pair_in-first-in-Number.result)
+    c.evaluate.ensures.unchanged s)))
+    c.assign_seldom.ensures.sets

@@ -3,6 +3,7 @@ use Rattle.and_program.specs.Items.{node_item}
 use Rattle.and_program.specs.declared.item.ItemNode.{ItemNode}
 use Rattle.and_step_laws.specs.Running.{IsRunnable}
 use Rattle.and_reduction.proofs.Noting.{any_noted}
+use Rattle.and_reduction.proofs.Writing.{any_nothing}
 use Rattle.and_reduction.proofs.running.run_item.Goals as goal
 
 pub run_comparison-requires-clause-item : goal.run_comparison-requires-clause-item
@@ -28,3 +29,7 @@ unreachable-requires-in-Fail g c =
 pub returns-in-Compare-clause-noted : goal.returns-in-Compare-clause-noted
 returns-in-Compare-clause-noted g c =
     any_noted c.run_comparison.result c.args.trail.now c.args.cells.now c.run_comparison.new.cells c.run_comparison.ensures.unchanged
+
+pub returns-in-Compare-clause-sets : goal.returns-in-Compare-clause-sets
+returns-in-Compare-clause-sets g c =
+    any_nothing c.run_comparison.result g.N.Naming.program c.args.cells.now c.run_comparison.new.cells c.args.goal c.run_comparison.ensures.unchanged

@@ -9,10 +9,10 @@ use Rattle.and_cells.specs.Seen.{word_at, IsWrittenIfNumber, LeadsTo}
 use Rattle.and_branch_laws.proofs.Loading.{falls_in, resolved_is}
 use Rattle.and_cells.specs.Meaning.{IsSettled}
 use Rattle.and_unify.specs.Pairs.{AreInRange, AreWritten, NameNoHalf}
-use Rattle.and_unify.specs.Settling.{AreNewFrom, Settles}
+use Rattle.and_unify.specs.Settling.{AreNewFrom, Settles, SetsPlaces}
 use Rattle.and_reduction.specs.Asked.{the_pair}
 use Rattle.and_reduction.specs.Trails.{KeepsNoted}
-use Rattle.and_reduction.proofs.NumbersSet.{sides_in_range, sides_written, pair_written, number_settles, number_noted}
+use Rattle.and_reduction.proofs.NumbersSet.{sides_in_range, sides_written, pair_written, number_settles, number_noted, number_places}
 use Rattle.and_reduction.proofs.settling.settle_number.Goals as goal
 
 pub end_of-requires-clause-in_range : goal.end_of-requires-clause-in_range
@@ -103,3 +103,21 @@ pub returns-clause-noted : goal.returns-clause-noted
 returns-clause-noted g c = λ other.
     subst (λ (r : List Ref). KeepsNoted c.args.trail.now c.settle_pair.new.trail r c.settle_pair.new.cells) c.end_of.ensures.unchanged
     (c.settle_pair.ensures.noted other)
+
+pub returns-in-Cell-clause-places : goal.returns-in-Cell-clause-places
+returns-in-Cell-clause-places g c =
+    let P = g.N.Naming.program in
+    let row = c.args.cells.now in
+    let fall = falls_in P c.args.loaded.now c.requires.program c.skeleton_is_of_the_program.ensures.skeleton.0 in
+    let found = resolved_is P c.args.loaded.now c.args.node c.args.base c.resolve-left.result c.requires.program c.resolve-left.ensures in
+    let leads = subst (λ (r : Ref). LeadsTo (plain row) r (Cell c.in-Cell.cell)) found c.in-Cell.ensures.leads in
+    let is = c.set_to_number.ensures.set ∙ ap (λ r. set r c.in-Cell.cell (Number c.args.pair)) c.end_of.ensures.unchanged in
+    number_places P row c.set_to_number.new.cells (part_at g.N.Naming.program c.args.base c.args.node.0) c.in-Cell.cell c.args.pair c.args.floor
+    (the_pair (part_at g.N.Naming.program c.args.base c.args.node.0) (Number c.args.pair)) refl fall
+    c.len-words.ensures.sound c.requires.in_range c.requires.written leads c.in-Cell.ensures.in_range
+    (c.in-Cell.ensures.free c.in-Cell.cell refl) is
+
+pub returns-clause-places : goal.returns-clause-places
+returns-clause-places g c =
+    subst (λ (r : List Ref). SetsPlaces g.N.Naming.program r c.settle_pair.new.cells
+    (the_pair (part_at g.N.Naming.program c.args.base c.args.node.0) (Number c.args.pair))) c.end_of.ensures.unchanged c.settle_pair.ensures.places

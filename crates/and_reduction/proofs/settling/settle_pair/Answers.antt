@@ -7,7 +7,8 @@ use Rattle.and_cells.specs.Rows.{plain}
 use Rattle.and_cells.specs.Seen.{word_at}
 use Rattle.and_unify.specs.declared.pairs.Pair.{Pair}
 use Rattle.and_unify.specs.Pairs.{AreInRange, AreWritten, NameNoHalf}
-use Rattle.and_unify.specs.Settling.{AreNewFrom, Settles}
+use Rattle.and_unify.specs.Settling.{AreNewFrom, Settles, SetsPlaces}
+use Rattle.and_unify.proofs.SettlingDone.{places_stay}
 use Rattle.and_reduction.specs.Asked.{the_pair}
 use Rattle.and_reduction.proofs.NotedSteps.{nothing_settled}
 use Rattle.and_reduction.proofs.settling.settle_pair.Goals as goal
@@ -67,3 +68,17 @@ pub returns-in-Err-clause-settles : goal.returns-in-Err-clause-settles
 returns-in-Err-clause-settles g c =
     nothing_settled g.N.Naming.program c.args.cells.now
     (the_pair (part_at g.N.Naming.program c.args.base c.args.node.0) (Number c.args.pair))
+
+pub returns-in-Ok-clause-places : goal.returns-in-Ok-clause-places
+returns-in-Ok-clause-places g c =
+    let P = g.N.Naming.program in
+    let left = c.resolve-left.result in
+    let pair : Pair = record { left = left; right = Number c.args.pair } in
+    let found = resolved_is P c.args.loaded.now c.args.node c.args.base left c.requires.program c.resolve-left.ensures in
+    let is : c.push.new.self ≡ the_pair (part_at P c.args.base c.args.node.0) (Number c.args.pair) =
+    c.in-Ok.ensures.ok ∙ ap (λ (pairs : List Pair). pairs ++ pair ∷ []) c.clear.ensures ∙ ap (λ (r : Ref). the_pair r (Number c.args.pair)) found in
+    subst (λ (ps : List Pair). SetsPlaces g.N.Naming.program c.args.cells.now c.settle_noted.new.cells ps) is c.settle_noted.ensures.places
+
+pub returns-in-Err-clause-places : goal.returns-in-Err-clause-places
+returns-in-Err-clause-places g c =
+    places_stay g.N.Naming.program c.args.cells.now (the_pair (part_at g.N.Naming.program c.args.base c.args.node.0) (Number c.args.pair))

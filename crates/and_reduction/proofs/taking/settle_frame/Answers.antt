@@ -8,6 +8,8 @@ use Rattle.and_branch_laws.specs.Reducing.{body_equations}
 use Rattle.and_branch_laws.specs.Variables.{placed}
 use Rattle.and_step_laws.proofs.NewFrames.{failing_unsolved}
 use Rattle.and_reduction.proofs.SettledAsked.{settled_asked, unsolved_asked}
+use Rattle.and_unify.proofs.SettlingDone.{places_stay}
+use Rattle.and_reduction.proofs.Writing.{asks_same}
 use Rattle.and_reduction.proofs.taking.settle_frame.Goals as goal
 
 pub returns-then-not-branch-clause-unsolved : goal.returns-then-not-branch-clause-unsolved
@@ -41,3 +43,21 @@ returns-clause-unsolved g c = λ e.
 
 pub returns-clause-noted : goal.returns-clause-noted
 returns-clause-noted g c = on_ok_weaker c.outcome_of.result c.settle_noted-answer.ensures.noted c.outcome_of.ensures.memory
+
+pub returns-then-not-branch-clause-nodes : goal.returns-then-not-branch-clause-nodes
+returns-then-not-branch-clause-nodes g c = record {
+  pairs = c.args.tools.now.pairs;
+  in_range = c.requires.ready.in_range;
+  asked = asks_same g.N.Naming.program c.args.floor c.args.tools.now.pairs;
+  sets = places_stay g.N.Naming.program c.args.cells.now c.args.tools.now.pairs;
+}
+
+pub returns-clause-nodes : goal.returns-clause-nodes
+returns-clause-nodes g c =
+    let asked = c.in_ok-ask_items.ensures.asked (let t = c.if-not-branch.false in cc) in
+    on_ok_weaker c.outcome_of.result (λ other. record {
+      pairs = c.ask_items.new.pairs;
+      in_range = asked.ready.in_range;
+      asked = c.in_ok-ask_items.ensures.nodes (let t = c.if-not-branch.false in cc);
+      sets = c.settle_noted-answer.ensures.places;
+    }) c.outcome_of.ensures.memory

@@ -8,6 +8,7 @@ use Rattle.and_branch_laws.specs.Variables.{placed}
 use Rattle.and_heads.specs.Calls.{call_and_head}
 use Rattle.and_step_laws.proofs.AskedPairs.{nothing_asked}
 use Rattle.and_reduction.proofs.SettledAsked.{settled_asked, unsolved_asked}
+use Rattle.and_reduction.proofs.Writing.{head_asks}
 use Rattle.and_reduction.proofs.taking.settle_head.Goals as goal
 
 pub returns-clause-solved : goal.returns-clause-solved
@@ -40,3 +41,13 @@ returns-clause-unsolved g c = λ e.
 
 pub returns-clause-noted : goal.returns-clause-noted
 returns-clause-noted g c = on_ok_weaker c.outcome_of.result c.settle_call_noted-answer.ensures.noted c.outcome_of.ensures.memory
+
+pub returns-clause-nodes : goal.returns-clause-nodes
+returns-clause-nodes g c =
+    let P = g.N.Naming.program in
+    on_ok_weaker c.outcome_of.result (λ other. record {
+      pairs = call_and_head P c.args.base c.args.call.0 c.args.floor c.args.head.0;
+      in_range = c.requires.ready.in_range;
+      asked = head_asks P c.args.base c.args.call.0 c.args.floor c.args.head.0;
+      sets = c.settle_call_noted-answer.ensures.places;
+    }) c.outcome_of.ensures.memory

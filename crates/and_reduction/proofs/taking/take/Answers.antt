@@ -1,12 +1,14 @@
-use Rattle.std.proofs.Common.{List, ◌++◌}
+use Rattle.std.proofs.Common.{List, [], ◌∷◌, ◌++◌, length}
 use Rattle.std.proofs.lemmas.Result.{on_ok_weaker}
 use Rattle.and_model.specs.Programs.{clause_at, clause_weight}
 use Rattle.and_model.specs.Solutions.{Equation, Solvable}
 use Rattle.and_model.specs.declared.reference.Ref.{Ref}
 use Rattle.and_cells.specs.Meaning.{equations_of}
-use Rattle.and_branch_laws.specs.Settling.{Settled}
+use Rattle.and_cells.specs.Parts.{part_at}
+use Rattle.and_branch_laws.specs.Settling.{Settled, widened}
 use Rattle.and_reduction.proofs.NotedSteps.{framed_noted}
 use Rattle.and_reduction.proofs.TakenHeads.{head_asked, reduced}
+use Rattle.and_reduction.proofs.Writing.{framed_sets}
 use Rattle.and_reduction.proofs.taking.take.Goals as goal
 
 pub settle_head-requires-clause-call : goal.settle_head-requires-clause-call
@@ -61,3 +63,12 @@ returns-clause-noted g c =
     (framed_noted c.args.trail.now c.settle_head.new.trail c.args.cells.now c.open_frame.new.cells c.settle_head.new.cells
     (clause_weight (clause_at P.program c.args.clause.0)) c.in_ok-floor.ensures.widened)
     c.settle_head.ensures.noted
+
+pub returns-clause-nodes : goal.returns-clause-nodes
+returns-clause-nodes g c =
+    let P = g.N.Naming.program in
+    on_ok_weaker c.settle_head.result
+    (framed_sets P c.open_frame.new.cells (widened c.args.cells.now (clause_weight (clause_at P.program c.args.clause.0))) c.settle_head.new.cells
+    c.in_ok-floor.floor (length c.args.cells.now) (part_at P c.args.goal.base c.args.call.0 ∷ []) c.in_ok-floor.ensures.widened
+    c.in_ok-floor.ensures.floor)
+    c.settle_head.ensures.nodes
