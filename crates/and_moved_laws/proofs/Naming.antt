@@ -2,9 +2,10 @@
 use Rattle.std.proofs.Common.{ℕ, suc, ◌+◌, ◌≡◌, ◌<◌, ◌≤◌, List, [], ◌∷◌, length, map, refl, sym, ap, ◌∙◌, subst, inl, inr, arith, Contains}
 use Rattle.std.specs.Prelude.{ℤ}
 use Rattle.std.proofs.lemmas.Bool.{cases_eq}
-use Rattle.std.proofs.lemmas.List.Elements.{Contains-append_left, Contains-append_right}
+use Rattle.std.proofs.lemmas.List.Elements.{Contains-append_left, Contains-append_right, All-contains}
 use Rattle.and_model.specs.Programs.{clause_at, clause_weight}
 use Rattle.and_model.specs.Terms.{Path, Term, variables_of, variables_in}
+use Rattle.and_model.specs.Stands.{term_of}
 use Rattle.and_model.specs.Store.{Frame}
 use Rattle.and_model.specs.declared.goal.Goal.{Goal}
 use Rattle.and_model.specs.declared.reference.Ref.{Ref}
@@ -14,17 +15,23 @@ use Rattle.and_program.specs.Skeletons.{Shape, term_list, nth, shape_term, terms
 use Rattle.and_program.specs.Loaded.{shape_at}
 use Rattle.and_program.specs.Shown.{arguments_in, resolved}
 use Rattle.and_laws.proofs.Ordered.{contains_cases, contains_none}
-use Rattle.and_cells.specs.Ranges.{NamedProgram, pair_of}
+use Rattle.and_cells.specs.Ranges.{NamedProgram, pair_of, IsInRange, IsNodeInRange}
 use Rattle.and_cells.specs.Parts.{part_at, parts_of}
+use Rattle.and_cells.specs.Rows.{plain}
 use Rattle.and_cells.specs.Seen.{word_at}
+use Rattle.and_cells.proofs.Keeping.{free_or_set}
 use Rattle.and_cell_laws.proofs.Images.{contains_origin}
 use Rattle.and_cell_laws.proofs.Structures.{node_term_shape}
+use Rattle.and_unify.specs.declared.pairs.Pair.{Pair}
+use Rattle.and_unify.specs.Places.{sides, IsPlace, root, set, part}
+use Rattle.and_unify.specs.Settling.{SetsPlaces}
 use Rattle.and_branch_laws.specs.Settling.{widened, IsWritten}
-use Rattle.and_branch_laws.specs.OwnVariables.{IsLoaded}
+use Rattle.and_branch_laws.specs.OwnVariables.{IsLoaded, OwnVariables}
 use Rattle.and_branch_laws.specs.Kept.{node_item_at}
 use Rattle.and_branch_laws.proofs.Clauses.{clause_weighs_more, number_is}
 use Rattle.and_branch_laws.proofs.Naming.{variables_fit}
 use Rattle.and_branch_laws.proofs.Rows.{widened_words}
+use Rattle.and_branch_laws.proofs.Owning.{term_speaks}
 use Rattle.and_moved_laws.specs.KeptFrames.{frame_of_goal, IsInFrame, NamesFrame, NamesFrames}
 
 -- ---- Nodes
@@ -46,7 +53,7 @@ pub node_named : (P : NamedProgram) (frames : List Frame) (f : Frame) → Contai
     → NamesFrame P frames (part_at P base node)
 node_named P frames f h base node begins inside cells = resolved_named P frames f h base node (begins, inside, cells) (shape_at P.skeleton node)
 
--- as one of a clause does in the clause's frame,
+-- as one of a clause does in the clause's frame.
 pub own_node_named : (P : NamedProgram) (frames : List Frame) (c base node : ℕ)
     → Contains frames (record { base = base; weight = clause_weight (clause_at P.program c) })
     → ((v : Path × ℕ) → Contains (variables_of (node_term P.skeleton.nodes node)) v → v.1 < (clause_at P.program c).variables)
@@ -56,7 +63,7 @@ own_node_named P frames c base node h own =
     node_named P frames (record { base = base; weight = clause_weight (clause_at P.program c) }) h base node refl (omega arith, omega arith)
     (λ v i. (let o = own v i in (omega arith, omega arith)))
 
--- and the pair of an `is` goal lies in the goal's.
+-- The pair of an `is` goal lies in the goal's.
 pub own_pair_named : (P : NamedProgram) → IsLoaded P → (frames : List Frame) (g : Goal) (left right pair : ℕ)
     → g.clause.0 ≤ length P.program.clauses → node_item_at P g ≡ Skeletons.is left right pair → Contains frames (frame_of_goal P g)
     → NamesFrame P frames (Number (pair_of P g.clause.0 g.base pair))
@@ -64,6 +71,42 @@ own_pair_named P loaded frames g left right pair there node h =
     let low = (number_is P loaded g.clause.0 there g.item left right pair node).1 in
     let weighs = clause_weighs_more (clause_at P.program g.clause.0) in
     (frame_of_goal P g, h, (omega arith, omega arith), (omega arith, omega arith))
+
+-- Where a goal's frame is among them, so does a node that has variables of the goal alone,
+pub own_named : (P : NamedProgram) (frames : List Frame) (g : Goal) (node : ℕ) → OwnVariables P → Contains frames (frame_of_goal P g)
+    → ((v : Path × ℕ) → Contains (variables_of (node_term P.skeleton.nodes node)) v → Contains (variables_of (term_of P.program g)) v)
+    → NamesFrame P frames (part_at P g.base node)
+own_named P frames g node own h among =
+    own_node_named P frames g.clause.0 g.base node h (λ v c. (term_speaks P own g v (among v c)).1)
+
+-- as the goal's own,
+pub goal_named : (P : NamedProgram) (frames : List Frame) (g : Goal) (node : ℕ) → OwnVariables P → Contains frames (frame_of_goal P g)
+    → term_of P.program g ≡ node_term P.skeleton.nodes node → NamesFrame P frames (part_at P g.base node)
+goal_named P frames g node own h term =
+    own_named P frames g node own h (λ v c. subst (λ (t : Term). Contains (variables_of t) v) (sym term) c)
+
+-- and so does one in a frame with which the row ends.
+last_inside : (P : NamedProgram) (f : Frame) → 0 < f.weight → (node : ℕ) → IsNodeInRange P (f.base + f.weight) node f.base
+    → IsInFrame f.base f
+    × ((v : Path × ℕ) → Contains (variables_of (node_term P.skeleton.nodes node)) v → IsInFrame (f.base + 1 + v.1) f)
+last_inside P f some node fits = (
+  (omega arith, omega arith),
+  λ v c.
+      let below = All-contains (λ (u : Path × ℕ). f.base + 1 + u.1 < f.base + f.weight) (variables_of (node_term P.skeleton.nodes node)) v fits.cells c in
+      (omega arith, below),
+)
+
+last_resolved : (P : NamedProgram) (frames : List Frame) (f : Frame) → Contains frames f → 0 < f.weight → (node : ℕ) (s : Shape)
+    → IsInRange P (f.base + f.weight) (resolved s (record { 0 = node }) f.base) → NamesFrame P frames (resolved s (record { 0 = node }) f.base)
+last_resolved P frames f h some node (Skeletons.variable k) fits = tt
+last_resolved P frames f h some node (Skeletons.number z) fits =
+    let x = last_inside P f some node fits.0 in (f, h, refl, x.0, x.1)
+last_resolved P frames f h some node (Skeletons.compound c ns) fits =
+    let x = last_inside P f some node fits.0 in (f, h, refl, x.0, x.1)
+
+pub last_named : (P : NamedProgram) (frames : List Frame) (f : Frame) (node : ℕ) → Contains frames f → 0 < f.weight
+    → IsInRange P (f.base + f.weight) (part_at P f.base node) → NamesFrame P frames (part_at P f.base node)
+last_named P frames f node h some fits = last_resolved P frames f h some node (shape_at P.skeleton node) fits
 
 -- a variable of an argument is one of the structure's
 argument_variable : (ts : List Term) (ns : List ℕ) (n : ℕ) (v : Path × ℕ) → Contains ns n → Contains (variables_of (nth ts n)) v
@@ -122,5 +165,26 @@ written_names P frames row written pair z x names place = elim (cases_eq place p
   | inr one ↦ elim (cases_eq place (suc pair)) [
     | inl e ↦ subst (λ (r : Ref). NamesFrame P frames r) (sym (ap (word_at written) e ∙ x.low)) tt
     | inr other ↦ subst (λ (r : Ref). NamesFrame P frames r) (sym (x.others place one other)) (names place)
+  ]
+]
+
+-- ---- Rows that were settled
+
+-- What roots lead to names what lies in frames, where these and the words of the row do,
+place_named : (P : NamedProgram) (frames : List Frame) (row roots : List Ref) (r : Ref) → AllFall 0 P.skeleton.nodes → NamesFrames P frames row
+    → ((q : Ref) → Contains roots q → NamesFrame P frames q) → IsPlace P (plain row) roots r → NamesFrame P frames r
+place_named P frames row roots r fall names each (root q at) = each q at
+place_named P frames row roots r fall names each (set cell q at knows) = subst (λ (x : Ref). NamesFrame P frames x) knows.0 (names cell)
+place_named P frames row roots r fall names each (part node base q at within) =
+    part_named P frames (Node node base) q fall (place_named P frames row roots (Node node base) fall names each at) within
+
+-- and so does a row in which only that was set.
+pub settled_names : (P : NamedProgram) (frames : List Frame) (old new : List Ref) (pairs : List Pair) → AllFall 0 P.skeleton.nodes
+    → NamesFrames P frames old → ((q : Ref) → Contains (sides pairs) q → NamesFrame P frames q) → SetsPlaces P old new pairs → NamesFrames P frames new
+settled_names P frames old new pairs fall names each sets place = elim (free_or_set (word_at new place)) [
+  | inl free ↦ subst (λ (x : Ref). NamesFrame P frames x) (sym free) tt
+  | inr some ↦ elim (sets.each place (word_at new place) (refl, some)) [
+    | inl before ↦ subst (λ (x : Ref). NamesFrame P frames x) before.0 (names place)
+    | inr led ↦ place_named P frames old (sides pairs) (word_at new place) fall names each led
   ]
 ]

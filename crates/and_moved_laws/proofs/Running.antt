@@ -18,11 +18,13 @@ use Rattle.and_model.specs.Store.{Frame, is_half}
 use Rattle.and_model.specs.declared.reference.Ref.{Ref}
 use Rattle.and_model.specs.declared.reference.Ref.TheVariants.{Free, Number, Half}
 use Rattle.and_program.specs.Skeletons
+use Rattle.and_program.specs.Skeletons.{node_term, item_of}
 use Rattle.and_laws.specs.Naming.{under}
 use Rattle.and_laws.proofs.Equality.{bool_cases}
 use Rattle.and_laws.proofs.Ordered.{middle_has, middle_more}
 use Rattle.and_laws.proofs.Substitutions.{apply_ground}
-use Rattle.and_cells.specs.Ranges.{NamedProgram, CanHold, pair_of}
+use Rattle.and_cells.specs.Ranges.{NamedProgram, CanHold, IsGoalInRange, pair_of}
+use Rattle.and_cells.specs.Parts.{part_at}
 use Rattle.and_cells.specs.Rows.{IsSound}
 use Rattle.and_cells.specs.Seen.{word_at, Grows}
 use Rattle.and_cells.specs.Meaning.{IsSettled, equations_of}
@@ -40,16 +42,18 @@ use Rattle.and_branch_laws.proofs.Asking
 use Rattle.and_branch_laws.proofs.Assigning
 use Rattle.and_branch_laws.proofs.Growing.{nothing_said}
 use Rattle.and_branch_laws.proofs.Keeping
+use Rattle.and_branch_laws.proofs.Nodes.{item_here}
 use Rattle.and_branch_laws.proofs.Owning.{term_speaks}
 use Rattle.and_branch_laws.proofs.Pairs.{pair_within}
 use Rattle.and_branch_laws.proofs.Running
 use Rattle.and_branch_laws.proofs.Speaking.{speaks_variable, speaks_applied}
 use Rattle.and_moved_laws.specs.Parts.{moved, moving, MovesTogether, IsTogether, IsPartOf, NamesTogether, framed_moved}
-use Rattle.and_moved_laws.specs.KeptFrames.{Fill, frame_of_goal, NamesFrames}
+use Rattle.and_moved_laws.specs.KeptFrames.{Fill, frame_of_goal, NamesFrame, NamesFrames}
 use Rattle.and_moved_laws.specs.KeptParts.{PartKept, GrewBeside}
 use Rattle.and_moved_laws.proofs.Frames.{names_together}
 use Rattle.and_moved_laws.proofs.Filling.{Origin, origin, filled, filled_length, filled_here, filled_elsewhere, part_filled}
 use Rattle.and_moved_laws.proofs.Moving.{free_in_part}
+use Rattle.and_moved_laws.proofs.Naming.{own_named}
 use Rattle.and_moved_laws.proofs.KeptParts.{kept_goal}
 use Rattle.and_moved_laws.proofs.Judging.{placed_moved}
 use Rattle.and_moved_laws.proofs.Reading.{read_there}
@@ -139,6 +143,22 @@ module _ (P : NamedProgram) (loaded : IsLoaded P) (rs : List Reduction) (frames 
       let e = k.moves (frame_of_goal P f.goal) (k.framed f h) n (omega arith) in
       let same : k.at (suc (pair_of P f.goal.clause.0 f.goal.base num)) ≡ k.at (f.goal.base + n) = ap k.at (omega arith) in
       omega arith
+
+  -- They are of the goal's frame, which its left node names too.
+  pub pair_named : (nl nr num : ℕ) → node_item_at P f.goal ≡ Skeletons.is nl nr num
+      → NamesFrame P frames (Number (pair_of P f.goal.clause.0 f.goal.base num))
+  pair_named nl nr num node =
+      let w = pair_inside nl nr num node in
+      (frame_of_goal P f.goal, k.framed f h, (omega arith, omega arith), (omega arith, omega arith))
+
+  pub left_named : (words nl nr num : ℕ) → IsGoalInRange P words f.goal → node_item_at P f.goal ≡ Skeletons.is nl nr num
+      → NamesFrame P frames (part_at P f.goal.base nl)
+  left_named words nl nr num range node =
+      let a : Term = node_term P.skeleton.nodes nl in
+      let b : Term = node_term P.skeleton.nodes nr in
+      let here : item_at P.program f.goal ≡ arithmetic (is a b) = item_here P loaded words f.goal range ∙ ap (item_of P.skeleton.nodes) node in
+      own_named P frames f.goal nl loaded.own (k.framed f h) (λ v c.
+      subst (λ (i : Item). Contains (variables_of (item_term i)) v) (sym here) (Contains-append_left (variables_of a) (variables_of b ++ []) v c))
 
   -- They are free.
   pub pair_is_free : (nl nr num : ℕ) → node_item_at P f.goal ≡ Skeletons.is nl nr num

@@ -25,11 +25,14 @@ ghost use Rattle.and_model.specs.declared.goal.Goal.{Goal};
 ghost use Rattle.and_model.specs.declared.reference.Ref.{Ref};
 ghost use Rattle.and_program.specs.Skeletons;
 ghost use Rattle.and_program.specs.Skeletons.{node_term, AllFall};
-ghost use Rattle.and_cells.specs.Ranges.{NamedProgram, IsGoalInRange, pair_of};
+ghost use Rattle.and_cells.specs.Ranges.{NamedProgram, IsInRange, IsGoalInRange, pair_of};
 ghost use Rattle.and_cells.specs.Rows.{IsSound, OnlySet};
 ghost use Rattle.and_cells.specs.Parts.{part_at, parts_of};
 ghost use Rattle.and_cells.specs.Seen.{word_at, IsSetTo, Grows};
 ghost use Rattle.and_cells.specs.Meaning.{StandsFor, IsSettled, equations_of, shallow_cells};
+ghost use Rattle.and_unify.specs.declared.pairs.Pair.{Pair};
+ghost use Rattle.and_unify.specs.Places.{sides};
+ghost use Rattle.and_unify.specs.Settling.{SetsPlaces};
 ghost use Rattle.and_laws.specs.Naming.{under};
 ghost use Rattle.and_branch_laws.specs.Variables.{EquationsSpeakOf, IsWholeCell, placed};
 ghost use Rattle.and_branch_laws.specs.Settling.{widened, Settled, IsWritten};
@@ -228,10 +231,11 @@ pub fn frames_below_stay()
 {}
 
 /// Naming frames: a node that is found in a frame names what lies in it, as one of a clause does in
-/// the clause's frame, and the pair of an `is` goal in the goal's; and so do the parts of a structure
-/// that does. What lies in some frames lies in more; free words behind a row, and a number
-/// that is written into it, name nothing. (So it is kept by whatever sets words to what was asked,
-/// or to parts of that.)
+/// the clause's frame, the node of a goal and the pair of an `is` goal in the goal's, and a node that is
+/// in range in the last frame of a row; and so do the parts of a structure that does. What lies in some
+/// frames lies in more; free words behind a row, and a number that is written into it, name nothing. So
+/// where pairs were settled whose sides name what lies in frames, as the words of the row do, the words
+/// do then.
 pub fn naming_frames()
     ensures node { (P : NamedProgram) (frames : List Frame) (f : Frame) (base node : ℕ) → Contains frames f
         → f.base ≡ base → IsInFrame base f
@@ -246,6 +250,11 @@ pub fn naming_frames()
         → g.clause.0 ≤ length P.program.clauses → node_item_at P g ≡ Skeletons.is left right pair
         → Contains frames (frame_of_goal P g)
         → NamesFrame P frames (Ref.Number (pair_of P g.clause.0 g.base pair)) }
+    ensures goal { (P : NamedProgram) (frames : List Frame) (g : Goal) (node : ℕ) → OwnVariables P
+        → Contains frames (frame_of_goal P g) → term_of P.program g ≡ node_term P.skeleton.nodes node
+        → NamesFrame P frames (part_at P g.base node) }
+    ensures last { (P : NamedProgram) (frames : List Frame) (f : Frame) (node : ℕ) → Contains frames f → 0 < f.weight
+        → IsInRange P (f.base + f.weight) (part_at P f.base node) → NamesFrame P frames (part_at P f.base node) }
     ensures parts { (P : NamedProgram) (frames : List Frame) (r q : Ref) → AllFall 0 P.skeleton.nodes
         → NamesFrame P frames r → Contains (parts_of P r) q → NamesFrame P frames q }
     ensures more { (P : NamedProgram) (frames others : List Frame) (row : List Ref)
@@ -254,6 +263,10 @@ pub fn naming_frames()
         → NamesFrames P frames row → NamesFrames P frames (widened row by) }
     ensures written { (P : NamedProgram) (frames : List Frame) (row written : List Ref) (pair : ℕ) (z : ℤ)
         → IsWritten row written pair z → NamesFrames P frames row → NamesFrames P frames written }
+    ensures settled { (P : NamedProgram) (frames : List Frame) (old new : List Ref) (pairs : List Pair)
+        → AllFall 0 P.skeleton.nodes → NamesFrames P frames old
+        → ((r : Ref) → Contains (sides pairs) r → NamesFrame P frames r) → SetsPlaces P old new pairs
+        → NamesFrames P frames new }
 {}
 
 /// One list of kept frames: of frames that rise some list has just those that are kept, in order,
@@ -412,7 +425,7 @@ pub fn reductions_keep_parts()
 /// Runs keep parts: where the terms that a kept goal of arithmetic needs read in the part as ground
 /// terms, a comparison that holds is dropped; and an `is` goal with a value is, where this was
 /// written into its pair, which was free, and its left side was settled with it. The whole row grows
-/// beside the part.
+/// beside the part. The pair and the left side name what lies in the goal's frame.
 pub fn runs_keep_parts()
     ensures comparison { (P : NamedProgram) (rs : List Reduction) (frames : List Frame) (part : List Ref)
         (front : List Framed) (f : Framed) (back : List Framed) (t : QueryTree P.program)
@@ -431,6 +444,14 @@ pub fn runs_keep_parts()
         → IsWritten part written (pair_of P f.goal.clause.0 f.goal.base pair) z
         → Settled P written new ((placed f.goal.base l, number z) ∷ []) → NamesFrames P frames new
         → (m : PartKept P rs frames new (front ++ back) t) × GrewBeside k.at m.at k.whole m.whole }
+    ensures pair_named { (P : NamedProgram) (rs : List Reduction) (frames : List Frame) (part : List Ref)
+        (kept : List Framed) (f : Framed) (t : QueryTree P.program) (left right pair : ℕ) → IsLoaded P
+        → PartKept P rs frames part kept t → Contains kept f → node_item_at P f.goal ≡ Skeletons.is left right pair
+        → NamesFrame P frames (Ref.Number (pair_of P f.goal.clause.0 f.goal.base pair)) }
+    ensures left_named { (P : NamedProgram) (rs : List Reduction) (frames : List Frame) (part : List Ref)
+        (kept : List Framed) (f : Framed) (t : QueryTree P.program) (words left right pair : ℕ) → IsLoaded P
+        → PartKept P rs frames part kept t → Contains kept f → IsGoalInRange P words f.goal
+        → node_item_at P f.goal ≡ Skeletons.is left right pair → NamesFrame P frames (part_at P f.goal.base left) }
     ensures pair_is_free { (P : NamedProgram) (rs : List Reduction) (frames : List Frame) (part : List Ref)
         (kept : List Framed) (f : Framed) (t : QueryTree P.program) (left right pair : ℕ) → IsLoaded P
         → PartKept P rs frames part kept t → Contains kept f → node_item_at P f.goal ≡ Skeletons.is left right pair

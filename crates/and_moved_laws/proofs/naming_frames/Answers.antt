@@ -10,6 +10,12 @@ returns-clause-own c = λ P frames clause base node h own. Naming.own_node_named
 pub returns-clause-number : goal.returns-clause-number
 returns-clause-number c = λ P frames g left right pair loaded there node h. Naming.own_pair_named P loaded frames g left right pair there node h
 
+pub returns-clause-goal : goal.returns-clause-goal
+returns-clause-goal c = λ P frames g node own h term. Naming.goal_named P frames g node own h term
+
+pub returns-clause-last : goal.returns-clause-last
+returns-clause-last c = λ P frames f node h some fits. Naming.last_named P frames f node h some fits
+
 pub returns-clause-parts : goal.returns-clause-parts
 returns-clause-parts c = λ P frames r q fall names h. Naming.part_named P frames r q fall names h
 
@@ -21,3 +27,6 @@ returns-clause-behind c = λ P frames row by names. Naming.widened_names P frame
 
 pub returns-clause-written : goal.returns-clause-written
 returns-clause-written c = λ P frames row written pair z x names. Naming.written_names P frames row written pair z x names
+
+pub returns-clause-settled : goal.returns-clause-settled
+returns-clause-settled c = λ P frames old new pairs fall names each sets. Naming.settled_names P frames old new pairs fall names each sets

@@ -14,3 +14,11 @@ returns-clause-assignment c =
 pub returns-clause-pair_is_free : goal.returns-clause-pair_is_free
 returns-clause-pair_is_free c = λ P rs frames part kept f t left right pair loaded k h node.
     Running.pair_is_free P loaded rs frames part kept t k f h left right pair node
+
+pub returns-clause-pair_named : goal.returns-clause-pair_named
+returns-clause-pair_named c = λ P rs frames part kept f t left right pair loaded k h node.
+    Running.pair_named P loaded rs frames part kept t k f h left right pair node
+
+pub returns-clause-left_named : goal.returns-clause-left_named
+returns-clause-left_named c = λ P rs frames part kept f t words left right pair loaded k h range node.
+    Running.left_named P loaded rs frames part kept t k f h words left right pair range node
