@@ -1,17 +1,19 @@
 -- Bodies whose goals are still to be put.
-use Rattle.std.proofs.Common.{ℕ, suc, ◌≡◌, ◌+◌, ◌<◌, true, false, List, [], ◌∷◌, ◌++◌, length, get_or, drop, map, refl, sym, ap, ◌∙◌, subst, Contains}
+use Rattle.std.proofs.Common.{ℕ, suc, ◌≡◌, ◌+◌, ◌<◌, true, false, List, [], ◌∷◌, ◌++◌, length, get_or, drop, map, sym, ap, ◌∙◌, subst, Contains}
 use Rattle.std.specs.Prelude.{Result, OnOk}
 use Rattle.std.proofs.lemmas.List.{get_or-map}
 use Rattle.std.proofs.lemmas.Result.{on_ok_weaker}
 use Rattle.and_model.specs.Programs.{Item, clause_at, clause_weight}
-use Rattle.and_model.specs.Reached.{none, ReachedBy}
-use Rattle.and_model.specs.Trees.{reduce}
+use Rattle.and_model.specs.Reached.{none}
 use Rattle.and_model.specs.declared.goal.Goal.{Goal}
+use Rattle.and_model.specs.declared.reference.Ref.{Ref}
 use Rattle.and_program.specs.Items.{is_call_node, node_item}
 use Rattle.and_program.specs.Skeletons
 use Rattle.and_program.specs.Skeletons.{NodeItem}
 use Rattle.and_program.specs.declared.item.ItemNode.{ItemNode}
 use Rattle.and_cells.specs.Ranges.{NamedProgram}
+use Rattle.and_branch_laws.proofs.Nodes.{node_is}
+use Rattle.and_branch_laws.specs.Goals.{IsNodeOf}
 use Rattle.and_branch_laws.specs.Kept.{goal_of, node_item_at}
 use Rattle.and_branch_laws.specs.OwnVariables.{IsLoaded}
 use Rattle.and_branch_laws.specs.Reducing.{goal_at, reduction_by, reduction_in_cells}
@@ -22,20 +24,19 @@ use Rattle.and_step_laws.proofs.Goals.{runnable}
 use Rattle.and_reduction.specs.Items.{AreItemsOf}
 use Rattle.and_reduction.specs.Runs.{HasRun, CannotHold}
 use Rattle.and_branch_parts.specs.Branches.{Held, IsBranch, SameKey}
-use Rattle.and_branch_parts.specs.Next.{HasNextCall, IsReduced, IsMoved, HasPut, is_goal_item, goals_from}
+use Rattle.and_branch_parts.specs.Next.{HasNextCall, IsReduced, HasPut, is_goal_item, goals_from}
 use Rattle.and_branch_parts.specs.Origins.{KeepsBack}
 use Rattle.and_branch_parts.specs.Rounds.{IsAt, StepsOn}
 use Rattle.and_branch_parts.specs.Watching.{Watched, all_watched}
 use Rattle.and_branch_parts.proofs.BodyStacks.{goal_first}
 use Rattle.and_branch_parts.proofs.GoalsRun.{run_branch, false_branch}
 use Rattle.and_branch_parts.proofs.KeptOrigins.{kept_then, kept_same}
-use Rattle.and_branch_parts.proofs.LookedGoals.{in_range, kind, run_ready, moved_steps}
-use Rattle.and_branch_parts.proofs.MovedBranches.{moved_branch}
+use Rattle.and_branch_parts.proofs.LookedGoals.{in_range, judge_ready, kind, run_ready, moved_steps}
 use Rattle.and_branch_parts.proofs.NextReduced.{next_lives}
 use Rattle.and_branch_parts.proofs.PassedGoals.{HasGoals}
 use Rattle.and_branch_parts.proofs.WatchedLists.{goals_append, goals_back, watched_put}
-use Rattle.and_branch.specs.Bodies.{with_body}
-use Rattle.and_branch.proofs.LookedItems.{is_arithmetic_then}
+use Rattle.and_branch.specs.Bodies.{with_body, with_next, IsCallInHand}
+use Rattle.and_branch.proofs.LookedItems.{is_a_call, is_arithmetic_then, node_there}
 
 -- ---- What is kept
 
@@ -67,16 +68,6 @@ kept_to P c n i old new k = record {
   grows = k.grows;
 }
 
--- A branch that was reduced to one whose goals are put otherwise was reduced.
-pub reduced_moved : (P : NamedProgram) (old mid new : Held) (c : ℕ) → IsReduced P old mid c → IsMoved mid new → IsReduced P old new c
-reduced_moved P old mid new c x m = record {
-  stands = λ t o g rest of_it lives limit next is_open reached.
-      moved_branch P mid new _ m
-      (x.stands t o g rest of_it lives limit next is_open
-      (subst (λ (l : ℕ). ReachedBy P.program l mid.key (reduce t o c of_it)) m.limit
-      (subst (λ (k : List ℕ). ReachedBy P.program new.limit k (reduce t o c of_it)) m.key reached)));
-}
-
 -- The number of the clause's frame may be told otherwise.
 pub entered_at : (P : NamedProgram) (c m n : ℕ) (old new : Held) → m ≡ n → IsReduced P old (with_body P c m 0 new) c
     → IsReduced P old (with_body P c n 0 new) c
@@ -94,37 +85,31 @@ next_entered P loaded old b new is c goal back x e same reductions used settled 
     (next_lives P loaded old b (with_body P c b.used 0 new) is c goal back x e (record { key = same.key; limit = same.limit }) reductions used
     settled live left (ap (λ (l : List Goal). goals_from c b.used 0 (clause_at P.program c).body ++ l) right) watches)
 
--- The goals were put.
-body_goals_put : (P : NamedProgram) (c n i : ℕ) (b old : Held) → b ≡ old → (p q : Pending) → HasGoals b p
-    → HasPut (goals_from c n i (drop i (clause_at P.program c).body)) p q
-    → IsMoved (with_body P c n i old)
-    (record b { left = goals_of q.left; right = goals_of q.right; watches = all_watched (q.left ++ q.right) })
-body_goals_put P c n i b old e p q (left, right, watches) put =
-    let gs : List Goal = goals_from c n i (drop i (clause_at P.program c).body) in
-    let new : Held = record b { left = goals_of q.left; right = goals_of q.right; watches = all_watched (q.left ++ q.right) } in
+-- Goals were put before the next ones.
+put_as : (b : Held) (l m r s : List Goal) (v w : List Watched) → l ≡ m → r ≡ s → v ≡ w
+    → record b { left = l; right = r; watches = v } ≡ record b { left = m; right = s; watches = w }
+put_as b l m r s v w e f h =
+    ap (λ (x : List Goal). record b { left = x; right = r; watches = v }) e
+    ∙ ap (λ (x : List Goal). record b { left = m; right = x; watches = v }) f
+    ∙ ap (λ (x : List Watched). record b { left = m; right = s; watches = x }) h
+
+goals_put : (gs : List Goal) (b old : Held) → b ≡ old → (p q : Pending) → HasGoals b p → HasPut gs p q
+    → record b { left = goals_of q.left; right = goals_of q.right; watches = all_watched (q.left ++ q.right) }
+    ≡ record old { right = gs ++ old.right }
+goals_put gs b old e p q (left, right, watches) put =
     let all : goals_of (map unwatched gs ++ p.right) ≡ gs ++ b.right =
     goals_append (map unwatched gs) p.right ∙ ap (λ (l : List Goal). l ++ goals_of p.right) (goals_back gs)
     ∙ ap (λ (l : List Goal). gs ++ l) (sym right) in
-    subst (λ (d : Held). IsMoved (with_body P c n i d) new) e (record {
-      key = refl;
-      limit = refl;
-      reductions = refl;
-      row = refl;
-      used = refl;
-      is_failed = refl;
-      goals = ap (λ (o : Pending). goals_of o.left ++ goals_of o.right) put ∙ ap (λ (l : List Goal). goals_of p.left ++ l) all
-          ∙ ap (λ (l : List Goal). l ++ (gs ++ b.right)) (sym left);
-      watches = λ w h.
-          subst (λ (ws : List Watched). Contains ws w)
-          (ap (λ (o : Pending). all_watched (o.left ++ o.right)) put ∙ watched_put p.left gs p.right ∙ sym watches) h;
-      back = kept_from P c n i b new (kept_same b new refl refl refl);
-    })
+    ap (λ (o : Pending). record b { left = goals_of o.left; right = goals_of o.right; watches = all_watched (o.left ++ o.right) }) put
+    ∙ put_as b (goals_of p.left) b.left (goals_of (map unwatched gs ++ p.right)) (gs ++ b.right)
+    (all_watched (p.left ++ (map unwatched gs ++ p.right))) b.watches (sym left) all (watched_put p.left gs p.right ∙ sym watches)
+    ∙ ap (λ (h : Held). record h { right = gs ++ h.right }) e
 
-pub body_put : {A E : Type 0} (P : NamedProgram) (c n i : ℕ) (b old : Held) → b ≡ old → (p q : Pending) → HasGoals b p → (r : Result A E)
-    → OnOk r (HasPut (goals_from c n i (drop i (clause_at P.program c).body)) p q)
-    → OnOk r (IsMoved (with_body P c n i old)
-    (record b { left = goals_of q.left; right = goals_of q.right; watches = all_watched (q.left ++ q.right) }))
-body_put P c n i b old e p q has r put = on_ok_weaker r (λ one. body_goals_put P c n i b old e p q has one) put
+pub all_put : {A E : Type 0} (gs : List Goal) (b old : Held) → b ≡ old → (p q : Pending) → HasGoals b p → (r : Result A E)
+    → OnOk r (HasPut gs p q)
+    → OnOk r (record b { left = goals_of q.left; right = goals_of q.right; watches = all_watched (q.left ++ q.right) }
+    ≡ record old { right = gs ++ old.right })
+all_put gs b old e p q has r put = on_ok_weaker r (λ one. goals_put gs b old e p q has one) put
 
 -- A branch of which what was read is not different, but for what is noted, has the same goals.
 pub stays_on : (P : NamedProgram) (c n i : ℕ) (old mid : Held) → mid ≡ record old { row = mid.row; trail = mid.trail } → mid.row ≡ old.row
@@ -180,6 +165,26 @@ module _ (P : NamedProgram) (loaded : IsLoaded P) (c n i : ℕ) (items : List It
       → IsRunnable P b.row x (node_item (get_or items i d))
   can_run_as x e other =
       subst (λ (y : Goal). IsRunnable P b.row y (node_item (get_or items i d))) (sym e) (can_run other)
+
+  -- It is a call, and the goals behind it were put: it is in hand, and with it the branch is as it was.
+  pub call_in_hand : (m : ℕ) → node_item (get_or items i d) ≡ Skeletons.call m → (new : Held) → new ≡ with_body P c n (suc i) b
+      → (h : Goal) → h ≡ goal → IsCallInHand P new h m × (with_next h new ≡ whole)
+  call_in_hand m is_node new put h e =
+      let same : with_next goal new ≡ whole =
+      ap (λ (x : Held). with_next goal x) put ∙ ap (λ (gs : List Goal). record b { right = gs }) (sym next) in
+      let (term, is_call) = is_a_call P loaded (length b.row) goal (in_range P whole goal at) (node_item (get_or items i d)) item_here
+      (ap is_call_node is_node) in
+      let node = node_is P loaded b.row goal (judge_ready P whole goal at loaded term is_call) m
+      (node_there P loaded (length b.row) goal (in_range P whole goal at) (node_item (get_or items i d)) item_here m is_node) in
+      subst (λ (x : Goal). IsCallInHand P new x m × (with_next x new ≡ whole)) (sym e) (
+        record {
+          at = subst (λ (x : Held). IsAt P x goal) (sym same) at;
+          term = term;
+          is_call = is_call;
+          node_is = subst (λ (row : List Ref). IsNodeOf P row goal m) (sym (ap (λ (x : Held). x.row) put)) node;
+        },
+        same,
+      )
 
   module _ (mid : Held) (is : mid ≡ record b { row = mid.row; trail = mid.trail }) (back : KeepsBack b mid) where
     -- It was run, and the goals behind it are still to be put,

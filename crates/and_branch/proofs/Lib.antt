@@ -8,6 +8,7 @@ pub use Rattle.and_branch_parts.proofs.RoundsKept
 pub use Rattle.and_branch_parts.proofs.SeenGoals
 mod AllFitting
 pub mod BodiesRun
+pub mod CallsInHand
 pub mod CallsWatched
 pub mod LinesTold
 pub mod LookedItems

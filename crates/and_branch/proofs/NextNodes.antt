@@ -4,7 +4,6 @@ use Rattle.and_model.specs.declared.goal.Goal.{Goal}
 use Rattle.and_cells.specs.Ranges.{NamedProgram}
 use Rattle.and_branch_laws.specs.Goals.{IsNodeOf}
 use Rattle.and_branch_parts.specs.Branches.{Held}
-use Rattle.and_branch_parts.specs.Rounds.{IsAt}
 use Rattle.and_branch.specs.Nodes.{IsNextNode}
 
 first_is : (g h : Goal) (gs hs : List Goal) → g ∷ gs ≡ h ∷ hs → g ≡ h
@@ -20,6 +19,3 @@ node_of_first P b g rest next n node = λ h others e.
 pub node_of_seen : (P : NamedProgram) (b seen : Held) → b ≡ seen → (g : Goal) (rest : List Goal) → b.right ≡ g ∷ rest → (n : ℕ)
     → IsNodeOf P b.row g n → IsNextNode P seen n
 node_of_seen P b seen is g rest next n node = subst (λ (x : Held). IsNextNode P x n) is (node_of_first P b g rest next n node)
-
-pub next_node : (P : NamedProgram) (b : Held) (g : Goal) (x : IsAt P b g) (n : ℕ) → IsNodeOf P b.row g n → IsNextNode P b n
-next_node P b g x n node = node_of_first P b g x.rest x.next n node

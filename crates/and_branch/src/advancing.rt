@@ -1,7 +1,7 @@
 //! Determinate goals, reduced until there are none.
 
 ghost use Rattle.std.specs.Prelude.{◌≡◌, ◌≢◌, ◌≤◌, ◌+◌, ◌⊎◌, [], ◌∷◌, ℕ, true, false, List, length, Ok, OnOk, IfOk};
-ghost use Rattle.std.specs.Prelude.{IfSome, Some, None};
+ghost use Rattle.std.specs.Prelude.{IfSome, Some, None, nat_lt};
 ghost use Rattle.and_model.specs.declared.numbers.NodeNo.{NodeNo};
 ghost use Rattle.and_model.specs.Terms.{Term};
 ghost use Rattle.and_model.specs.Programs.{call, Arithmetic, arithmetic, clause_at, clause_weight};
@@ -37,7 +37,7 @@ use and_determinacy::{Judged, Narrowed, judge, narrow};
 use and_gate::Gate;
 use and_model::{ClauseNo, Goal, NodeNo};
 use and_program::{ItemNode, Loaded};
-use and_reduction::{Entered, Ran, node_of, run_item};
+use and_reduction::{Ran, node_of, run_item};
 use std::alloc::AllocError;
 
 /// How many reductions the first round has for each goal that stands at its beginning. Each later one has twice
@@ -45,7 +45,7 @@ use std::alloc::AllocError;
 pub const FIRST_ROUND: u32 = 64;
 
 /// The number under which a gate is told of these reductions: that of the first worker.
-const LEADER: u32 = 0;
+pub(crate) const LEADER: u32 = 0;
 
 /// What comes next in a branch.
 #[derive(Clone, Copy)]
@@ -59,7 +59,8 @@ enum Next {
 }
 
 /// The node of an item, if it is a call.
-fn called_by(item: ItemNode) -> Option<NodeNo>
+#[inline(always)]
+pub(crate) fn called_by(item: ItemNode) -> Option<NodeNo>
     ensures call { (node : NodeNo) → result ≡ Some node → node_item item ≡ Skeletons.call node.0 }
     ensures other { result ≡ None → is_call_node (node_item item) ≡ false }
 {
@@ -170,7 +171,7 @@ impl<N: Naming> Branch<N> {
                 return Ok(Round::Changed);
             }
             share = share.at(self.count_ahead());
-            match self.look(loaded, table, gate, share.left > 0, workspace)? {
+            match self.look(loaded, table, gate, share.left, workspace)? {
                 Looked::Ended => {
                     let round = self.round_ended(loaded, changed, heavy);
                     if !turns_back(way, round) {
@@ -185,8 +186,8 @@ impl<N: Naming> Branch<N> {
                     changed = true;
                     self.turn_to_woken(way)?;
                 }
-                Looked::Reduced => {
-                    share.left -= 1;
+                Looked::Reduced(taken) => {
+                    share.left = share.left.saturating_sub(taken);
                     changed = true;
                 }
                 Looked::Failed => return Ok(Round::Failed),
@@ -201,7 +202,7 @@ impl<N: Naming> Branch<N> {
         loaded: &Loaded,
         table: &Determinacy,
         gate: &G,
-        may: bool,
+        left: u32,
         workspace: &mut Workspace,
     ) -> Result<Looked, AllocError>
         requires program { N.program ≡ named loaded.now }
@@ -209,13 +210,13 @@ impl<N: Naming> Branch<N> {
         requires branch { IsBranch N.program self.old }
         ensures same { SameKey self.old self.new }
         ensures steps { OnOk result (StepsOn N.program self.old self.new) }
-        ensures came_to { IfOk result (λ l. LookIs N.program may self.old self.new l) }
+        ensures came_to { IfOk result (λ l. LookIs N.program (nat_lt 0 left) self.old self.new l) }
     {
         loaded.skeleton_is_of_the_program();
         match self.next_goal() {
             Next::Failed => Ok(Looked::Failed),
             Next::Nothing => Ok(Looked::Ended),
-            Next::Goal(goal) => self.look_at(loaded, table, gate, goal, may, workspace),
+            Next::Goal(goal) => self.look_at(loaded, table, gate, goal, left, workspace),
         }
     }
 
@@ -226,7 +227,7 @@ impl<N: Naming> Branch<N> {
         table: &Determinacy,
         gate: &G,
         goal: Goal,
-        may: bool,
+        left: u32,
         workspace: &mut Workspace,
     ) -> Result<Looked, AllocError>
         requires program { N.program ≡ named loaded.now }
@@ -234,13 +235,13 @@ impl<N: Naming> Branch<N> {
         requires at { IsAt N.program self.old goal }
         ensures same { SameKey self.old self.new }
         ensures steps { OnOk result (StepsOn N.program self.old self.new) }
-        ensures came_to { IfOk result (λ l. LookIs N.program may self.old self.new l) }
+        ensures came_to { IfOk result (λ l. LookIs N.program (nat_lt 0 left) self.old self.new l) }
     {
         loaded.skeleton_is_of_the_program();
         let item = item_of(loaded, goal);
         match called_by(item) {
-            Some(node) => self.look_at_call(loaded, table, gate, goal, node, may, workspace),
-            None => self.look_at_arithmetic(loaded, goal, item, may, workspace),
+            Some(node) => self.look_at_call(loaded, table, gate, goal, node, left, workspace),
+            None => self.look_at_arithmetic(loaded, goal, item, left, workspace),
         }
     }
 
@@ -252,7 +253,7 @@ impl<N: Naming> Branch<N> {
         gate: &G,
         goal: Goal,
         node: NodeNo,
-        may: bool,
+        left: u32,
         workspace: &mut Workspace,
     ) -> Result<Looked, AllocError>
         requires program { N.program ≡ named loaded.now }
@@ -262,7 +263,7 @@ impl<N: Naming> Branch<N> {
         requires node { IsNodeOf N.program self.old.row goal node.0 }
         ensures same { SameKey self.old self.new }
         ensures steps { OnOk result (StepsOn N.program self.old self.new) }
-        ensures came_to { IfOk result (λ l. LookIs N.program may self.old self.new l) }
+        ensures came_to { IfOk result (λ l. LookIs N.program (nat_lt 0 left) self.old self.new l) }
     {
         loaded.skeleton_is_of_the_program();
         match self.narrow_call(loaded, table, goal, node, workspace)? {
@@ -271,7 +272,7 @@ impl<N: Naming> Branch<N> {
                 Ok(Looked::Failed)
             }
             Narrowed::AtMost(clause) => {
-                self.look_at_last(loaded, table, gate, goal, node, clause, may, workspace)
+                self.look_at_last(loaded, table, gate, goal, node, clause, left, workspace)
             }
             Narrowed::Several => {
                 // A copy of its own: what is handed on from here stays out of memory on the other ways.
@@ -286,8 +287,8 @@ impl<N: Naming> Branch<N> {
         }
     }
 
-    /// The same, where no clause but this one can be a candidate of the call. It is reduced by this
-    /// clause without a trial: where the head does not fit, the branch is marked failed.
+    /// The same, where no clause but this one can be a candidate of the call. It is reduced by this clause without a
+    /// trial: where the head does not fit, the branch is marked failed. So are the calls with which bodies begin then.
     fn look_at_last<G: Gate>(
         &mut self,
         loaded: &Loaded,
@@ -296,7 +297,7 @@ impl<N: Naming> Branch<N> {
         goal: Goal,
         called: NodeNo,
         clause: ClauseNo,
-        may: bool,
+        left: u32,
         workspace: &mut Workspace,
     ) -> Result<Looked, AllocError>
         requires program { N.program ≡ named loaded.now }
@@ -307,9 +308,10 @@ impl<N: Naming> Branch<N> {
         requires last { IsAtMost N.program self.old.row goal clause.0 }
         ensures same { SameKey self.old self.new }
         ensures steps { OnOk result (StepsOn N.program self.old self.new) }
-        ensures came_to { IfOk result (λ l. LookIs N.program may self.old self.new l) }
+        ensures came_to { IfOk result (λ l. LookIs N.program (nat_lt 0 left) self.old self.new l) }
     {
         loaded.skeleton_is_of_the_program();
+        let may = left > 0;
         if !may {
             self.pass()?;
             return Ok(Looked::Passed {
@@ -322,18 +324,10 @@ impl<N: Naming> Branch<N> {
             let heavy = goal;
             return self.look_at_heavy(loaded, table, heavy, clause, workspace);
         }
-        let head = loaded.head(clause);
-        let items = loaded.items(clause);
-        gate.reduce(LEADER);
-        let node = self.used;
-        match self.enter_next(loaded, called, clause, weight, head, items, workspace)? {
-            Entered::Solved => {
-                self.run_body(loaded, items, clause, node, workspace)?;
-                self.goals_are_few();
-                Ok(Looked::Reduced)
-            }
-            Entered::NoSolution => Ok(Looked::Failed),
-        }
+        self.drop_next();
+        let taken = self.run_on(loaded, table, gate, goal, called, clause, left, workspace)?;
+        self.goals_are_few();
+        Ok(Looked::Reduced(taken))
     }
 
     /// The same, where there is no room for that clause. It has to be tried here, since a clause that
@@ -380,7 +374,7 @@ impl<N: Naming> Branch<N> {
         loaded: &Loaded,
         goal: Goal,
         item: ItemNode,
-        may: bool,
+        left: u32,
         workspace: &mut Workspace,
     ) -> Result<Looked, AllocError>
         requires program { N.program ≡ named loaded.now }
@@ -389,7 +383,7 @@ impl<N: Naming> Branch<N> {
         requires item { node_item_at N.program goal ≡ node_item item }
         ensures same { SameKey self.old self.new }
         ensures steps { OnOk result (StepsOn N.program self.old self.new) }
-        ensures came_to { IfOk result (λ l. LookIs N.program may self.old self.new l) }
+        ensures came_to { IfOk result (λ l. LookIs N.program (nat_lt 0 left) self.old self.new l) }
     {
         loaded.skeleton_is_of_the_program();
         match self.run_next(loaded, goal, item, workspace)? {
@@ -457,7 +451,7 @@ impl<N: Naming> Branch<N> {
 
     /// The same of a goal whose node this is.
     #[inline(always)]
-    fn narrow_call(
+    pub(crate) fn narrow_call(
         &mut self,
         loaded: &Loaded,
         table: &Determinacy,
@@ -595,7 +589,7 @@ impl<N: Naming> Branch<N> {
     }
 
     /// Whether there is room for so much more.
-    fn has_room(&self, weight: u32) -> bool
+    pub(crate) fn has_room(&self, weight: u32) -> bool
         ensures room { result ≡ true → self.now.used + weight ≤ self.now.limit }
         ensures no_room { result ≡ false → self.now.used + weight ≤ self.now.limit → ⊥ }
     {

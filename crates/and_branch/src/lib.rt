@@ -5,6 +5,7 @@
 #![tactic(auto)]
 
 pub mod advancing;
+mod beginning;
 pub mod branch;
 pub mod choicepoint;
 mod copying;

@@ -1,6 +1,6 @@
 -- What a look at the next goal of a branch comes to.
 use Rattle.std.proofs.Common.{ℕ, ◌≡◌, ◌+◌, ◌<◌, ◌≤◌, Bool, true, List, []}
-use Rattle.std.proofs.Common.{◌∷◌, ◌++◌, length, refl, ap, sym, ◌∙◌, subst, inl, inr, ◌⊎◌, arith, Contains}
+use Rattle.std.proofs.Common.{◌∷◌, ◌++◌, length, refl, ap, sym, ◌∙◌, subst, inr, ◌⊎◌, arith, Contains}
 use Rattle.and_model.specs.Terms.{Term}
 use Rattle.and_model.specs.Programs.{call, arithmetic, Arithmetic, clause_at, clause_weight, Of}
 use Rattle.and_model.specs.Reached.{Steps, none, more}
@@ -11,7 +11,6 @@ use Rattle.and_model.specs.declared.limits.TheConstants.{MAX_LIMIT}
 use Rattle.and_model.specs.declared.numbers.ClauseNo.{ClauseNo}
 use Rattle.and_model.specs.declared.reference.Ref.{Ref}
 use Rattle.and_laws.proofs.Deciding.{of_bounds}
-use Rattle.and_laws.proofs.Order.{clause_weighs}
 use Rattle.and_cells.specs.Ranges.{NamedProgram, IsGoalInRange}
 use Rattle.and_cells.specs.Meaning.{IsSettled}
 use Rattle.and_branch_laws.specs.OwnVariables.{IsLoaded}
@@ -319,9 +318,3 @@ reduced_steps P loaded old new g x same term e c last room reduced back = record
   each = λ t branch. last_branch P loaded old new t branch x.live same g x.rest x.next term e c last room reduced;
   back = back;
 }
-
-pub reduced_more : (P : NamedProgram) (old new : Held) (c : ℕ) → new.used ≡ old.used + clause_weight (clause_at P.program c) → AreFew new
-    → HasProgressed old new × (old.used < new.used)
-reduced_more P old new c used few =
-    let grows : old.used < new.used = let some = clause_weighs (clause_at P.program c) in omega arith in
-    ((few, inl grows), grows)

@@ -1,5 +1,5 @@
 -- Rounds over the goals of a branch.
-use Rattle.std.specs.Prelude.{ℕ, ◌≡◌, ◌<◌, ◌+◌, ◌^◌, ◌⊎◌, Bool, true, false, List, [], ◌∷◌, ◌++◌, length, Contains}
+use Rattle.std.specs.Prelude.{ℕ, ◌≡◌, ◌<◌, ◌≤◌, ◌+◌, ◌^◌, ◌⊎◌, Bool, true, false, List, [], ◌∷◌, ◌++◌, length, Contains}
 use Rattle.std.specs.Prelude.{Option, Some, None}
 use Rattle.and_model.specs.Terms.{Term}
 use Rattle.and_model.specs.Programs.{call, Of}
@@ -101,7 +101,7 @@ abbrev pub LookIs : NamedProgram → (may : Bool) → (old new : Held) → Looke
 LookIs P may old new Ended = (new ≡ old) × (old.right ≡ []) × (old.is_failed ≡ false)
 LookIs P may old new (Passed goal seen) = HasPassed P may old new goal seen
 LookIs P may old new Ran = HasProgressed old new × (new.used ≡ old.used) × (length new.right < length old.right)
-LookIs P may old new Reduced = HasProgressed old new × (may ≡ true) × (old.used < new.used)
+LookIs P may old new (Reduced taken) = HasProgressed old new × (may ≡ true) × (old.used < new.used) × (1 ≤ taken)
 LookIs P may old new Failed = new.is_failed ≡ true
 
 -- The branch is at work behind its goals, for none of which anything is to be done, and this was found of them.

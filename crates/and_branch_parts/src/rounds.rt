@@ -12,8 +12,8 @@ pub enum Looked {
     Passed { goal: Goal, seen: Seen },
     /// It was arithmetic, and was run.
     Ran,
-    /// It was a call, and was reduced.
-    Reduced,
+    /// It was a call, and was reduced; perhaps calls of its clause's body were too. So many were taken in all.
+    Reduced(u32),
     /// The tree is dead.
     Failed,
 }

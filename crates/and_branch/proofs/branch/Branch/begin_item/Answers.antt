@@ -39,17 +39,23 @@ run_next-requires-clause-item g c =
     (c.is_arithmetic_item.ensures.other c.if-not-is_arithmetic_item.false)
 
 pub returns-then-place-count-clause-stays : goal.returns-then-place-count-clause-stays
-returns-then-place-count-clause-stays g c = λ _.
-    no_steps g.N.Naming.program (with_body g.N.Naming.program c.args.clause.0 c.args.node c.args.place c.args.self.now)
+returns-then-place-count-clause-stays g c = λ _. (
+  c.requires.live,
+  no_steps g.N.Naming.program (with_body g.N.Naming.program c.args.clause.0 c.args.node c.args.place c.args.self.now),
+)
 
 pub returns-then-not-is_arithmetic_item-clause-stays : goal.returns-then-not-is_arithmetic_item-clause-stays
-returns-then-not-is_arithmetic_item-clause-stays g c = λ _.
-    no_steps g.N.Naming.program (with_body g.N.Naming.program c.args.clause.0 c.args.node c.args.place c.args.self.now)
+returns-then-not-is_arithmetic_item-clause-stays g c = λ _. (
+  c.requires.live,
+  no_steps g.N.Naming.program (with_body g.N.Naming.program c.args.clause.0 c.args.node c.args.place c.args.self.now),
+)
 
 pub returns-in-Waits-clause-stays : goal.returns-in-Waits-clause-stays
-returns-in-Waits-clause-stays g c = λ _.
-    stays_on g.N.Naming.program c.args.clause.0 c.args.node c.args.place c.args.self.now c.run_next.new.self c.run_next.ensures.others
-    (c.run_next.ensures.unchanged _ (c.in_ok-run_next.was ∙ ap Ok c.in-Waits.is)) c.in_ok-run_next.ensures.back
+returns-in-Waits-clause-stays g c = λ _. (
+  ap (λ (b : Held). b.is_failed) c.run_next.ensures.others ∙ c.requires.live,
+  stays_on g.N.Naming.program c.args.clause.0 c.args.node c.args.place c.args.self.now c.run_next.new.self c.run_next.ensures.others
+      (c.run_next.ensures.unchanged _ (c.in_ok-run_next.was ∙ ap Ok c.in-Waits.is)) c.in_ok-run_next.ensures.back,
+)
 
 pub returns-in-Done-clause-ran : goal.returns-in-Done-clause-ran
 returns-in-Done-clause-ran g c = λ _.

@@ -1,65 +1,53 @@
-use Rattle.std.proofs.Common.{◌+◌, refl, ap, sym, ◌∙◌, subst, Ok}
-use Rattle.and_pending.specs.Pending.{goals_of}
-use Rattle.and_branch_parts.specs.Branches.{Held}
-use Rattle.and_branch_parts.specs.Next.{HasNextCall}
-use Rattle.and_branch_parts.proofs.KeptOrigins.{reduced_back}
-use Rattle.and_branch_parts.proofs.LoadedPrograms.{is_loaded}
-use Rattle.and_branch_parts.proofs.NextReduced.{next_judged, next_dies}
-use Rattle.and_branch_parts.proofs.PassedGoals.{first_goal, popped_left, popped_right, popped_watched}
-use Rattle.and_branch.specs.Nodes.{IsNextNode}
-use Rattle.and_branch.proofs.BodiesRun.{next_entered}
+use Rattle.std.proofs.Common.{List, sym, subst}
+use Rattle.std.proofs.lemmas.Result.{on_ok_weaker}
+use Rattle.and_model.specs.declared.reference.Ref.{Ref}
+use Rattle.and_branch_laws.specs.Goals.{IsNodeOf}
+use Rattle.and_branch.specs.Bodies.{with_body}
+use Rattle.and_branch.proofs.BodiesRun.{entered_at}
+use Rattle.and_branch.proofs.CallsInHand.{next_in_hand, same_row, same_used, reduced_in_hand, back_in_hand}
 use Rattle.and_branch.proofs.branch.Branch.enter_next.Goals as goal
 
-pub take-requires-clause-goal : goal.take-requires-clause-goal
-take-requires-clause-goal g c =
-    let P = g.N.Naming.program in
-    let says = c.skeleton_is_of_the_program.ensures in
-    let loaded = is_loaded P c.args.loaded.now c.requires.program says.skeleton says.own_variables says.few in
-    let (w, rest, next, same, popped) = c.in-Some.ensures.some in
-    let has = subst (λ (b : Held). HasNextCall P b c.args.clause.0) (sym c.self.view_is) c.requires.next in
-    next_judged P loaded _ c.args.clause.0 c.in-Some.goal (goals_of rest) has
-    (first_goal c.self.inside.goals.right rest w c.in-Some.goal next same)
+pub take_next-goal-requires : goal.take_next-goal-requires
+take_next-goal-requires g c = let x = c.requires.next in record { next = (x.goal, x.rest, x.next) }
 
-pub take-requires-clause-call : goal.take-requires-clause-call
-take-requires-clause-call g c =
-    let P = g.N.Naming.program in
-    let (w, rest, next, same, popped) = c.in-Some.ensures.some in
-    let needs = subst (λ (b : Held). IsNextNode P b c.args.call.0) (sym c.self.view_is) c.requires.call in
-    needs c.in-Some.goal (goals_of rest) (first_goal c.self.inside.goals.right rest w c.in-Some.goal next same)
+pub enter_goal-requires-clause-next : goal.enter_goal-requires-clause-next
+enter_goal-requires-clause-next g c =
+    next_in_hand g.N.Naming.program c.args.self.now c.take_next-goal.new.self c.take_next-goal.result c.take_next-goal.new.self.right
+    c.take_next-goal.ensures.next c.take_next-goal.ensures.dropped c.args.clause.0 c.requires.next
 
-pub returns-in-Solved-clause-entered : goal.returns-in-Solved-clause-entered
-returns-in-Solved-clause-entered g c = λ _.
+pub enter_goal-requires-clause-call : goal.enter_goal-requires-clause-call
+enter_goal-requires-clause-call g c =
     let P = g.N.Naming.program in
-    let says = c.skeleton_is_of_the_program.ensures in
-    let loaded = is_loaded P c.args.loaded.now c.requires.program says.skeleton says.own_variables says.few in
-    let (w, rest, next, same, popped) = c.in-Some.ensures.some in
-    let has = subst (λ (b : Held). HasNextCall P b c.args.clause.0) (sym c.self.view_is) c.requires.next in
-    next_entered P loaded c.args.self.now _ _ c.self.view_is c.args.clause.0 c.in-Some.goal (goals_of rest) has
-    (first_goal c.self.inside.goals.right rest w c.in-Some.goal next same)
-    (record { key = refl; limit = refl }) c.in_ok-push_reduction.ensures (ap (λ w. c.self.inside.used + w) c.requires.weight)
-    (c.take.ensures.solved (c.in_ok-take.was ∙ ap Ok c.in-Solved.is)) refl
-    (popped_left c.self.inside.goals c.pop.new.self w rest next popped)
-    (popped_right c.self.inside.goals c.pop.new.self w rest next popped)
-    (popped_watched c.self.inside.goals c.pop.new.self w rest next popped)
+    let mid = c.take_next-goal.new.self in
+    let row = same_row P c.args.self.now mid c.take_next-goal.result c.take_next-goal.new.self.right c.take_next-goal.ensures.next
+    c.take_next-goal.ensures.dropped in
+    subst (λ (r : List Ref). IsNodeOf P r c.take_next-goal.result c.args.call.0) (sym row)
+    (c.requires.call c.take_next-goal.result mid.right c.take_next-goal.ensures.next)
 
-pub returns-in-NoSolution-clause-fails : goal.returns-in-NoSolution-clause-fails
-returns-in-NoSolution-clause-fails g c = λ _.
+pub returns-clause-entered : goal.returns-clause-entered
+returns-clause-entered g c = λ is.
     let P = g.N.Naming.program in
-    let says = c.skeleton_is_of_the_program.ensures in
-    let loaded = is_loaded P c.args.loaded.now c.requires.program says.skeleton says.own_variables says.few in
-    let (w, rest, next, same, popped) = c.in-Some.ensures.some in
-    let has = subst (λ (b : Held). HasNextCall P b c.args.clause.0) (sym c.self.view_is) c.requires.next in (
-      next_dies P loaded _ _ _ c.self.view_is c.args.clause.0 c.in-Some.goal (goals_of rest) has
-          (first_goal c.self.inside.goals.right rest w c.in-Some.goal next same)
-          (record { key = refl; limit = refl }) c.in_ok-push_reduction.ensures (ap (λ w. c.self.inside.used + w) c.requires.weight)
-          (c.take.ensures.unsolved (c.in_ok-take.was ∙ ap Ok c.in-NoSolution.is)) refl,
-      refl,
+    let mid = c.take_next-goal.new.self in
+    let new = c.enter_goal.new.self in
+    let used = same_used P c.args.self.now mid c.take_next-goal.result c.take_next-goal.new.self.right c.take_next-goal.ensures.next
+    c.take_next-goal.ensures.dropped in
+    entered_at P c.args.clause.0 mid.used c.args.self.now.used c.args.self.now new used
+    (reduced_in_hand P c.args.self.now mid c.take_next-goal.result c.take_next-goal.new.self.right c.take_next-goal.ensures.next
+    c.take_next-goal.ensures.dropped
+    (with_body P c.args.clause.0 mid.used 0 new) c.args.clause.0 (c.enter_goal.ensures.entered is))
+
+pub returns-clause-fails : goal.returns-clause-fails
+returns-clause-fails g c = λ is.
+    let P = g.N.Naming.program in
+    let fails = c.enter_goal.ensures.fails is in (
+      reduced_in_hand P c.args.self.now c.take_next-goal.new.self c.take_next-goal.result c.take_next-goal.new.self.right c.take_next-goal.ensures.next
+          c.take_next-goal.ensures.dropped c.enter_goal.new.self c.args.clause.0 fails.0,
+      fails.1,
     )
 
-pub returns-in-Solved-clause-back : goal.returns-in-Solved-clause-back
-returns-in-Solved-clause-back g c =
-    reduced_back _ c.args.self.now c.self.view_is _ _ c.in_ok-push_reduction.ensures c.in_ok-take.ensures.noted
-
-pub returns-in-NoSolution-clause-back : goal.returns-in-NoSolution-clause-back
-returns-in-NoSolution-clause-back g c =
-    reduced_back _ c.args.self.now c.self.view_is _ _ c.in_ok-push_reduction.ensures c.in_ok-take.ensures.noted
+pub returns-clause-back : goal.returns-clause-back
+returns-clause-back g c =
+    let P = g.N.Naming.program in
+    on_ok_weaker c.enter_goal.result
+    (λ back. back_in_hand P c.args.self.now c.take_next-goal.new.self c.take_next-goal.result c.take_next-goal.new.self.right
+    c.take_next-goal.ensures.next c.take_next-goal.ensures.dropped c.enter_goal.new.self back) c.enter_goal.ensures.back

@@ -1,4 +1,4 @@
-use Rattle.std.proofs.Common.{◌≡◌, ◌-◌, nat_lt, true, false, ap, sym, refl, ◌∙◌, subst, arith, rules}
+use Rattle.std.proofs.Common.{◌≡◌, nat_lt, true, false, ap, sym, refl, ◌∙◌, subst, arith, rules}
 use Rattle.std.proofs.lemmas.Bool.Decides.{nat_tests}
 use Rattle.and_branch_parts.specs.Branches.{Held}
 use Rattle.and_branch_parts.specs.Finding.{with_passed}
@@ -233,7 +233,7 @@ goals-preserved g c =
     (nat_lt 0 c.at-share.result.left) c.come_to_next.new.self c.look.new.self l) c.in-Reduced.is c.in_ok-look.ensures.came_to in
     record {
       stands = round_changed P c.clear_out.new.self c.come_to_next.new.self c.look.new.self c.goals.changed c.at-share.result.left
-          (c.at-share.result.left - 1) c.goals.heavy
+          _ c.goals.heavy
           come.stands c.look.ensures.same c.in_ok-look.ensures.steps looked.0;
       back = λ _. refl;
       some = come.some;

@@ -1,4 +1,4 @@
-use Rattle.std.proofs.Common.{Ok, List, ap, sym, ◌∙◌, subst}
+use Rattle.std.proofs.Common.{Ok, List, nat_lt, ap, sym, ◌∙◌, subst}
 use Rattle.and_model.specs.declared.reference.Ref.{Ref}
 use Rattle.and_program.specs.Items.{node_item}
 use Rattle.and_step_laws.proofs.Goals.{runnable}
@@ -43,10 +43,10 @@ returns-in_ok-pass-in-Waits-clause-steps g c =
     let same = unmoved c.args.self.now c.run_next.new.self c.run_next.ensures.others row in
     let at = at_unmoved P c.args.self.now c.run_next.new.self same c.in_ok-cell.ensures.back c.args.goal c.requires.at in
     let waits = subst (λ (l : List Ref). IsWaiting P l c.args.goal) (sym row) (c.run_next.ensures.waits c.in-Waits.cell was) in
-    let both = passed P c.args.may c.run_next.new.self c.watch_arithmetic.new.self c.pass.new.self c.args.goal Arithmetic at
+    let both = passed P (nat_lt 0 c.args.left) c.run_next.new.self c.watch_arithmetic.new.self c.pass.new.self c.args.goal Arithmetic at
     c.in_ok-watch_arithmetic-in-Waits.ensures.watches c.in_ok-pass-in-Waits.ensures.moved c.in_ok-pass-in-Waits.ensures.passed
     (λ may. idle_waiting P c.run_next.new.self.limit c.run_next.new.self.row c.args.goal c.requires.arithmetic.0 c.requires.arithmetic.1 waits) in
-    let all = passed_unmoved P c.args.self.now c.run_next.new.self same c.in_ok-cell.ensures.back c.args.may c.pass.new.self c.args.goal Arithmetic
+    let all = passed_unmoved P c.args.self.now c.run_next.new.self same c.in_ok-cell.ensures.back (nat_lt 0 c.args.left) c.pass.new.self c.args.goal Arithmetic
     both in
     all.1
 
@@ -58,10 +58,10 @@ returns-in_ok-pass-in-Waits-clause-came_to g c =
     let same = unmoved c.args.self.now c.run_next.new.self c.run_next.ensures.others row in
     let at = at_unmoved P c.args.self.now c.run_next.new.self same c.in_ok-cell.ensures.back c.args.goal c.requires.at in
     let waits = subst (λ (l : List Ref). IsWaiting P l c.args.goal) (sym row) (c.run_next.ensures.waits c.in-Waits.cell was) in
-    let both = passed P c.args.may c.run_next.new.self c.watch_arithmetic.new.self c.pass.new.self c.args.goal Arithmetic at
+    let both = passed P (nat_lt 0 c.args.left) c.run_next.new.self c.watch_arithmetic.new.self c.pass.new.self c.args.goal Arithmetic at
     c.in_ok-watch_arithmetic-in-Waits.ensures.watches c.in_ok-pass-in-Waits.ensures.moved c.in_ok-pass-in-Waits.ensures.passed
     (λ may. idle_waiting P c.run_next.new.self.limit c.run_next.new.self.row c.args.goal c.requires.arithmetic.0 c.requires.arithmetic.1 waits) in
-    let all = passed_unmoved P c.args.self.now c.run_next.new.self same c.in_ok-cell.ensures.back c.args.may c.pass.new.self c.args.goal Arithmetic
+    let all = passed_unmoved P c.args.self.now c.run_next.new.self same c.in_ok-cell.ensures.back (nat_lt 0 c.args.left) c.pass.new.self c.args.goal Arithmetic
     both in
     all.0
 

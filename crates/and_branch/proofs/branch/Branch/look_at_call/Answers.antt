@@ -1,4 +1,4 @@
-use Rattle.std.proofs.Common.{sym, subst, rules}
+use Rattle.std.proofs.Common.{nat_lt, sym, subst, rules}
 use Rattle.std.specs.Prelude.{IfSome}
 use Rattle.and_cells.specs.Meaning.{IsSettled}
 use Rattle.and_determinacy.specs.Candidates.{IsNarrowed}
@@ -78,7 +78,7 @@ returns-in_ok-pass-in-Several-clause-steps g c =
     let told = c.in_ok-narrow_call.ensures in
     let narrowed = subst (λ (n : Narrowed). IsNarrowed P c.args.self.now.row c.args.goal n) c.in-Several.is told.narrowed in
     let watches = subst (λ (b : Held). WatchesOn P b c.watch_call.new.self) told.unchanged c.in_ok-watch_call-in-Several.ensures.watches in
-    let both = passed P c.args.may c.args.self.now c.watch_call.new.self c.pass.new.self c.args.goal Several c.requires.at
+    let both = passed P (nat_lt 0 c.args.left) c.args.self.now c.watch_call.new.self c.pass.new.self c.args.goal Several c.requires.at
     watches c.in_ok-pass-in-Several.ensures.moved c.in_ok-pass-in-Several.ensures.passed
     (λ may. idle_several P c.args.self.now.limit c.args.self.now.row c.args.goal c.requires.call.0 c.requires.call.1 narrowed) in
     both.1
@@ -89,7 +89,7 @@ returns-in_ok-pass-in-Several-clause-came_to g c =
     let told = c.in_ok-narrow_call.ensures in
     let narrowed = subst (λ (n : Narrowed). IsNarrowed P c.args.self.now.row c.args.goal n) c.in-Several.is told.narrowed in
     let watches = subst (λ (b : Held). WatchesOn P b c.watch_call.new.self) told.unchanged c.in_ok-watch_call-in-Several.ensures.watches in
-    let both = passed P c.args.may c.args.self.now c.watch_call.new.self c.pass.new.self c.args.goal Several c.requires.at
+    let both = passed P (nat_lt 0 c.args.left) c.args.self.now c.watch_call.new.self c.pass.new.self c.args.goal Several c.requires.at
     watches c.in_ok-pass-in-Several.ensures.moved c.in_ok-pass-in-Several.ensures.passed
     (λ may. idle_several P c.args.self.now.limit c.args.self.now.row c.args.goal c.requires.call.0 c.requires.call.1 narrowed) in
     both.0

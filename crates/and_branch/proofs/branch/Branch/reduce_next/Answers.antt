@@ -3,10 +3,10 @@ use Rattle.std.proofs.lemmas.Result.{on_ok_weaker}
 use Rattle.and_model.specs.Programs.{clause_at, clause_weight}
 use Rattle.and_cells.specs.Ranges.{NamedProgram}
 use Rattle.and_reduction.specs.Items.{AreItemsOf, IsHeadOf}
-use Rattle.and_branch_parts.proofs.KeptOrigins.{kept_then}
 use Rattle.and_branch_parts.specs.Branches.{Held}
-use Rattle.and_branch.specs.Bodies.{with_body}
-use Rattle.and_branch.proofs.BodiesRun.{entered_at, kept_to, reduced_moved}
+use Rattle.and_branch_parts.specs.Next.{IsReduced}
+use Rattle.and_branch_parts.specs.Origins.{KeepsBack}
+use Rattle.and_branch.proofs.BodiesRun.{entered_at, kept_to}
 use Rattle.and_branch.proofs.branch.Branch.reduce_next.Goals as goal
 
 pub enter_next-requires-clause-weight : goal.enter_next-requires-clause-weight
@@ -30,29 +30,22 @@ put_body-requires-clause-items g c =
 
 pub returns-in-Solved-clause-used : goal.returns-in-Solved-clause-used
 returns-in-Solved-clause-used g c =
-    on_ok_weaker c.put_body.result (λ moved. moved.used ∙ c.in_ok-enter_next.ensures.used) c.put_body.ensures.moved
+    on_ok_weaker c.put_body.result (λ is. ap (λ (b : Held). b.used) is ∙ c.in_ok-enter_next.ensures.used) c.put_body.ensures.put
 
 pub returns-in-Solved-clause-reduced : goal.returns-in-Solved-clause-reduced
 returns-in-Solved-clause-reduced g c =
     let P = g.N.Naming.program in
     let node = c.self.inside.used in
-    let mid = c.enter_next.new.self in
-    let whole = with_body P c.args.clause.0 node 0 mid in
-    let entered = entered_at P c.args.clause.0 c.args.self.now.used node c.args.self.now mid (sym (ap (λ (b : Held). b.used) c.self.view_is))
-    (c.enter_next.ensures.entered (c.in_ok-enter_next.was ∙ ap Ok c.in-Solved.is)) in
-    on_ok_weaker c.put_body.result
-    (λ moved. reduced_moved P c.args.self.now whole c.put_body.new.self c.args.clause.0 entered moved)
-    c.put_body.ensures.moved
+    let entered = entered_at P c.args.clause.0 c.args.self.now.used node c.args.self.now c.enter_next.new.self
+    (sym (ap (λ (b : Held). b.used) c.self.view_is)) (c.enter_next.ensures.entered (c.in_ok-enter_next.was ∙ ap Ok c.in-Solved.is)) in
+    on_ok_weaker c.put_body.result (λ is. subst (λ (b : Held). IsReduced P c.args.self.now b c.args.clause.0) (sym is) entered)
+    c.put_body.ensures.put
 
 pub returns-in-Solved-clause-back : goal.returns-in-Solved-clause-back
 returns-in-Solved-clause-back g c =
-    let P = g.N.Naming.program in
-    let node = c.self.inside.used in
-    let mid = c.enter_next.new.self in
-    on_ok_weaker c.put_body.result
-    (λ moved. kept_then c.args.self.now (with_body P c.args.clause.0 node 0 mid) c.put_body.new.self
-    (kept_to P c.args.clause.0 node 0 c.args.self.now mid c.in_ok-enter_next.ensures.back) moved.back)
-    c.put_body.ensures.moved
+    let back = kept_to g.N.Naming.program c.args.clause.0 c.self.inside.used 0 c.args.self.now c.enter_next.new.self
+    c.in_ok-enter_next.ensures.back in
+    on_ok_weaker c.put_body.result (λ is. subst (λ (b : Held). KeepsBack c.args.self.now b) (sym is) back) c.put_body.ensures.put
 
 pub returns-in-NoSolution-clause-reduced : goal.returns-in-NoSolution-clause-reduced
 returns-in-NoSolution-clause-reduced g c =

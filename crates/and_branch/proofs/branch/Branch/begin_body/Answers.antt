@@ -1,9 +1,10 @@
 use Rattle.std.proofs.Common.{ℕ, suc, ◌≡◌, ◌+◌, Ok, refl, ap, ◌∙◌, subst, arith}
 use Rattle.std.proofs.lemmas.Result.{on_ok_weaker}
 use Rattle.and_branch_parts.specs.Rounds.{StepsOn}
-use Rattle.and_branch_parts.proofs.LookedGoals.{no_steps, steps_then, still_branch, moved_steps}
-use Rattle.and_branch.specs.Bodies.{with_body}
-use Rattle.and_branch.proofs.branch.Branch.run_body.Goals as goal
+use Rattle.and_branch_parts.proofs.LookedGoals.{no_steps, steps_then, still_branch}
+use Rattle.and_branch.specs.Bodies.{with_body, with_next}
+use Rattle.and_branch.proofs.CallsInHand.{no_step_to}
+use Rattle.and_branch.proofs.branch.Branch.begin_body.Goals as goal
 
 pub places-init : goal.places-init
 places-init g c =
@@ -43,23 +44,42 @@ places-smaller g c =
     let ran = c.begin_item.ensures.ran (c.in_ok-begin_item.was ∙ ap Ok c.in-Ran.is) in
     let low = ran.0 in omega arith
 
-pub returns-in-Stays-clause-used : goal.returns-in-Stays-clause-used
-returns-in-Stays-clause-used g c =
-    on_ok_weaker c.put_body.result (λ moved. moved.used ∙ c.in_ok-begin_item.ensures.used ∙ c.places.invariant.used) c.put_body.ensures.moved
-
-pub returns-in-Stays-clause-steps : goal.returns-in-Stays-clause-steps
-returns-in-Stays-clause-steps g c =
+pub put_behind-requires-clause-branch : goal.put_behind-requires-clause-branch
+put_behind-requires-clause-branch g c =
     let P = g.N.Naming.program in
     let first = with_body P c.args.clause.0 c.args.node 0 c.args.self.now in
     let here = with_body P c.args.clause.0 c.args.node c.places.place c.places.self in
     let there = with_body P c.args.clause.0 c.args.node c.places.place c.begin_item.new.self in
     let stays = c.begin_item.ensures.stays (c.in_ok-begin_item.was ∙ ap Ok c.in-Stays.is) in
-    let before = steps_then P first here there c.places.invariant.steps stays in
-    on_ok_weaker c.put_body.result
-    (λ moved. steps_then P first there c.put_body.new.self before (moved_steps P there c.put_body.new.self moved)) c.put_body.ensures.moved
+    still_branch P first there (steps_then P first here there c.places.invariant.steps stays.1) c.requires.branch
 
-pub returns-in-Failed-clause-steps : goal.returns-in-Failed-clause-steps
-returns-in-Failed-clause-steps g c =
+pub returns-in-Stays-clause-used : goal.returns-in-Stays-clause-used
+returns-in-Stays-clause-used g c =
+    on_ok_weaker c.put_behind.result (λ used. used ∙ c.in_ok-begin_item.ensures.used ∙ c.places.invariant.used) c.put_behind.ensures.used
+
+pub returns-in-Stays-clause-call : goal.returns-in-Stays-clause-call
+returns-in-Stays-clause-call g c = λ h m is.
+    let P = g.N.Naming.program in
+    let first = with_body P c.args.clause.0 c.args.node 0 c.args.self.now in
+    let here = with_body P c.args.clause.0 c.args.node c.places.place c.places.self in
+    let there = with_body P c.args.clause.0 c.args.node c.places.place c.begin_item.new.self in
+    let stays = c.begin_item.ensures.stays (c.in_ok-begin_item.was ∙ ap Ok c.in-Stays.is) in
+    let before = steps_then P first here there c.places.invariant.steps stays.1 in
+    let (hand, whole) = c.put_behind.ensures.call h m is in
+    let after = with_next h c.put_behind.new.self in (hand, steps_then P first there after before (no_step_to P there after whole))
+
+pub returns-in-Stays-clause-other : goal.returns-in-Stays-clause-other
+returns-in-Stays-clause-other g c = λ is.
+    let P = g.N.Naming.program in
+    let first = with_body P c.args.clause.0 c.args.node 0 c.args.self.now in
+    let here = with_body P c.args.clause.0 c.args.node c.places.place c.places.self in
+    let there = with_body P c.args.clause.0 c.args.node c.places.place c.begin_item.new.self in
+    let stays = c.begin_item.ensures.stays (c.in_ok-begin_item.was ∙ ap Ok c.in-Stays.is) in
+    let before = steps_then P first here there c.places.invariant.steps stays.1 in
+    steps_then P first there c.put_behind.new.self before (no_step_to P there c.put_behind.new.self (c.put_behind.ensures.other is))
+
+pub returns-in-Failed-clause-other : goal.returns-in-Failed-clause-other
+returns-in-Failed-clause-other g c = λ _.
     let P = g.N.Naming.program in
     let first = with_body P c.args.clause.0 c.args.node 0 c.args.self.now in
     let here = with_body P c.args.clause.0 c.args.node c.places.place c.places.self in

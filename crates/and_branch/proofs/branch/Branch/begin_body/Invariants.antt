@@ -2,7 +2,7 @@ use Rattle.std.specs.Prelude.{◌≡◌, ◌≤◌, ◌-◌, false, length}
 use Rattle.and_branch_parts.specs.Branches.{SameKey}
 use Rattle.and_branch_parts.specs.Rounds.{StepsOn}
 use Rattle.and_branch.specs.Bodies.{with_body}
-use Rattle.and_branch.proofs.branch.Branch.run_body.Given as goal
+use Rattle.and_branch.proofs.branch.Branch.begin_body.Given as goal
 
 abbrev pub invariant-places : goal.invariant-places
 invariant-places g l = record {
