@@ -1,7 +1,8 @@
 -- What references lead to, and structures whose arguments are met.
-use Rattle.std.proofs.Common.{ℕ, ℤ, ◌≡◌, ◌≢◌, ◌<◌, true, false, List, [], ◌∷◌, ◌++◌, length, map}
+use Rattle.std.proofs.Common.{ℕ, ℤ, ◌≡◌, ◌≢◌, ◌<◌, true, false, List, [], ◌∷◌, ◌++◌, length, map, get_or}
 use Rattle.std.proofs.Common.{refl, sym, ap, ◌∙◌, subst, arith}
 use Rattle.std.specs.Prelude.{Contains}
+use Rattle.std.proofs.lemmas.List.{get_or_default}
 use Rattle.std.proofs.lemmas.Option.{same_Some}
 use Rattle.and_model.specs.Terms.{Term, Terms, variable, number, compound, more, is_ground, are_ground, Substitution, apply, apply_all, framed}
 use Rattle.and_model.specs.Solutions.{Equation, Solves}
@@ -23,11 +24,13 @@ use Rattle.and_cells.specs.Rows.{plain}
 use Rattle.and_cells.specs.Seen.{word_at, Grows, LeadsTo, here, onward}
 use Rattle.and_cells.specs.Meaning.{cell_variable, equations_of}
 use Rattle.and_cells.specs.Joined.{value}
-use Rattle.and_cells.specs.Parts.{part_at}
+use Rattle.and_cells.specs.Parts.{part_at, parts_of}
 use Rattle.and_cell_laws.proofs.Between.{set_agrees}
+use Rattle.and_cell_laws.proofs.Images.{contains_image}
 use Rattle.and_cell_laws.proofs.Structures.{node_term_shape}
 use Rattle.and_branch_laws.specs.Variables.{cells_from, placed}
 use Rattle.and_branch_laws.specs.Judging.{outside}
+use Rattle.and_unify.proofs.TurnParts.{part_in_range}
 use Rattle.and_determinacy.specs.Seeing.{AgreeUpTo, IsEarly, AreEarly, ref_term, argument_pairs, IsPart, Meets, AreLacking}
 use Rattle.and_determinacy.proofs.SureHeads.{ref_early, value_of_ref}
 use Rattle.and_determinacy.proofs.SureSteps.{frame, meets_so, cell_filled, whole_lacks, all_lack, all_early}
@@ -72,8 +75,20 @@ resolved_part P words (Skeletons.variable k) node base fits = fits
 resolved_part P words (Skeletons.number z) node base fits = fits
 resolved_part P words (Skeletons.compound name ns) node base fits = fits
 
-pub is_part : (P : NamedProgram) (words base n : ℕ) → IsInRange P words (part_at P base n) → IsPart P words (part_at P base n)
+is_part : (P : NamedProgram) (words base n : ℕ) → IsInRange P words (part_at P base n) → IsPart P words (part_at P base n)
 is_part P words base n fits = resolved_part P words (shape_at P.skeleton n) (record { 0 = n }) base fits
+
+-- So is an argument of a structure that is in range, by whichever of two equal programs it is found.
+pub argument_part : (P Q : NamedProgram) → P ≡ Q → AllFall 0 P.skeleton.nodes → (words : ℕ) (node : NodeNo) (base i : ℕ)
+    → IsInRange P words (Node node base) → i < length (arguments_at Q.skeleton node.0)
+    → IsPart P words (part_at Q base (get_or (arguments_at Q.skeleton node.0) i 0))
+argument_part P Q same fall words node base i fits low =
+    let args = arguments_at Q.skeleton node.0 in
+    let m : ℕ = get_or args i 0 in
+    let here = contains_image (part_at Q base) args m (i, low, sym (get_or_default args i 0 m low)) in
+    let in_range = part_in_range P words (Node node base) (part_at P base m) fall fits
+    (subst (λ (R : NamedProgram). Contains (parts_of R (Node node base)) (part_at R base m)) (sym same) here) in
+    subst (λ (R : NamedProgram). IsPart P words (part_at R base m)) same (is_part P words base m in_range)
 
 module _ (P : NamedProgram) (row : List Ref) where
   -- So what meets that meets the reference.

@@ -1,8 +1,8 @@
 -- References whose terms lack the cells that are held, and variables of the head that are met again.
-use Rattle.std.proofs.Common.{ℕ, ◌≡◌, ◌≢◌, ◌<◌, true, List, [], ◌∷◌, ◌++◌, append-nil, length, map, get_or, Some}
+use Rattle.std.proofs.Common.{ℕ, ◌≡◌, ◌≢◌, ◌<◌, ◌+◌, true, List, [], ◌∷◌, ◌++◌, append-nil, length, map, take, get_or, Some}
 use Rattle.std.proofs.Common.{refl, sym, ap, ◌∙◌, subst, inl, inr, arith}
 use Rattle.std.specs.Prelude.{All, Contains, pos}
-use Rattle.std.proofs.lemmas.List.{get_or_default}
+use Rattle.std.proofs.lemmas.List.{get_or_default, map-append, take_more, take_all}
 use Rattle.std.proofs.lemmas.Option.{same_Some, slice_get-get_or}
 use Rattle.std.proofs.lemmas.List.Elements.{All-contains, All-push, Contains-append_cases, Contains-append_right}
 use Rattle.and_model.specs.Terms.{Term, Terms, variable, compound, more, is_ground, Substitution, apply, apply_all, framed}
@@ -26,7 +26,7 @@ use Rattle.and_branch_laws.specs.Variables.{cells_from, placed}
 use Rattle.and_branch_laws.specs.Judging.{outside}
 use Rattle.and_determinacy.specs.Seeing.{IsEarly, only, LacksEach, ref_term, IsNoted, IsPart, IsUsable, Meets, AreLacking, HoldNone}
 use Rattle.and_determinacy.proofs.SureHeads.{ref_early, variable_early, value_of_ref, only_other}
-use Rattle.and_determinacy.proofs.SureParts.{led_value, part_whole, compound_is, number_is, ref_of_part}
+use Rattle.and_determinacy.proofs.SureParts.{led_value, part_whole, compound_is, number_is, ref_of_part, constant_ground, no_arguments}
 use Rattle.and_determinacy.proofs.SureSteps.{free_front, longer_twice, leaves_more, lacks_fewer, meets_so, cell_filled}
 
 -- what holds of the only one holds of each
@@ -86,7 +86,7 @@ module _ (P : NamedProgram) (row : List Ref) where
         });
   }
 
-  pub constant_holds : (held : List ℕ) (node : NodeNo) (base : ℕ) → is_ground (node_term P.skeleton.nodes node.0) ≡ true
+  constant_holds : (held : List ℕ) (node : NodeNo) (base : ℕ) → is_ground (node_term P.skeleton.nodes node.0) ≡ true
       → HoldNone P row held held (Node node base ∷ [])
   constant_holds held node base ground = ground_holds held (Node node base) (λ later s grows solves.
       let t : Term = node_term P.skeleton.nodes node.0 in
@@ -152,7 +152,7 @@ module _ (P : NamedProgram) (row : List Ref) where
         (record { stays = λ c i u. ap (compound name) (parts_lack held s base c u i ns each) })
 
     -- A structure holds none where its parts do.
-    pub structure_holds : (held has : List ℕ) (node : NodeNo) (base : ℕ) → ((k : ℕ) → shape_at P.skeleton node.0 ≢ Skeletons.variable k)
+    structure_holds : (held has : List ℕ) (node : NodeNo) (base : ℕ) → ((k : ℕ) → shape_at P.skeleton node.0 ≢ Skeletons.variable k)
         → HoldNone P row held has (map (part_at P base) (arguments_at P.skeleton node.0)) → HoldNone P row held has (Node node base ∷ [])
     structure_holds held has node base solid holds = record {
       gained = holds.gained;
@@ -163,11 +163,32 @@ module _ (P : NamedProgram) (row : List Ref) where
           (whole_lacks held s node base (shape_at P.skeleton node.0) refl solid (holds.lacks later grows sound settled free s solves leaves));
     }
 
+    -- So it does where those before its last part do, and then that part.
+    pub last_holds : (held mid has : List ℕ) (node : NodeNo) (base last : ℕ) → ((k : ℕ) → shape_at P.skeleton node.0 ≢ Skeletons.variable k)
+        → last + 1 ≡ length (arguments_at P.skeleton node.0)
+        → HoldNone P row held mid (map (part_at P base) (take last (arguments_at P.skeleton node.0)))
+        → HoldNone P row mid has (part_at P base (get_or (arguments_at P.skeleton node.0) last 0) ∷ []) → HoldNone P row held has (Node node base ∷ [])
+    last_holds held mid has node base last solid counted before at_last =
+        let args = arguments_at P.skeleton node.0 in
+        let m : ℕ = get_or args last 0 in
+        let whole : map (part_at P base) (take last args) ++ part_at P base m ∷ [] ≡ map (part_at P base) args =
+        sym (map-append (part_at P base) (take last args) (m ∷ [])) ∙ ap (map (part_at P base)) (sym (take_more args last 0 (omega arith)))
+        ∙ ap (map (part_at P base)) (take_all (last + 1) args (omega arith)) in
+        structure_holds held has node base solid (subst (HoldNone P row held has) whole
+        (both_hold held mid has (map (part_at P base) (take last args)) (part_at P base m) before at_last))
+
   -- a node in range that is no variable
   pub solid_node : (words : ℕ) (node : NodeNo) (base : ℕ) → IsInRange P words (Node node base) → (k : ℕ)
       → shape_at P.skeleton node.0 ≢ Skeletons.variable k
   solid_node words node base fits k is =
       fits.1 k (slice_get-get_or P.skeleton.nodes node.0 (Skeletons.number (pos 0)) fits.0.there ∙ ap (λ (s : Shape). Some s) is)
+
+  -- A node without arguments holds none.
+  pub bare_holds : AllFall 0 P.skeleton.nodes → (held : List ℕ) (node : NodeNo) (base : ℕ) → IsInRange P (length row) (Node node base)
+      → length (arguments_at P.skeleton node.0) ≡ 0 → HoldNone P row held held (Node node base ∷ [])
+  bare_holds fall held node base fits nothing =
+      let empty = no_arguments (arguments_at P.skeleton node.0) 0 (sym nothing) refl in
+      constant_holds held node base (constant_ground P fall node.0 empty (solid_node (length row) node base fits))
 
   -- ---- What is met again
 

@@ -3,7 +3,7 @@
 //! Arguments of the call and of the head are gone over together, and what would be given to free cells of the call and
 //! to variables of the head is noted; nothing is set. Where more than a look is needed, it is given up.
 
-ghost use Rattle.std.specs.Prelude.{◌≡◌, ◌≢◌, ◌<◌, ◌^◌, ◌++◌, ◌∷◌, ◌⊎◌, ℕ, List, [], Ok, All, Contains, true, false, length};
+ghost use Rattle.std.specs.Prelude.{◌≡◌, ◌≢◌, ◌<◌, ◌≤◌, ◌^◌, ◌++◌, ◌∷◌, ◌⊎◌, ℕ, List, [], Ok, All, Contains, true, false, length, map, take};
 ghost use Rattle.and_model.specs.Candidates.{Candidate};
 ghost use Rattle.and_model.specs.Programs.{Of};
 ghost use Rattle.and_model.specs.Terms.{framed, variable};
@@ -13,7 +13,7 @@ ghost use Rattle.and_program.specs.Shown.{shown};
 ghost use Rattle.and_program.specs.Skeletons;
 ghost use Rattle.and_program.specs.Skeletons.{AllFall, node_term};
 ghost use Rattle.and_cells.specs.Meaning.{IsSettled, cell_variable, equations_of};
-ghost use Rattle.and_cells.specs.Parts.{named};
+ghost use Rattle.and_cells.specs.Parts.{named, part_at};
 ghost use Rattle.and_cells.specs.Ranges.{IsInRange, IsInRangeOrHalf};
 ghost use Rattle.and_cells.specs.Rows.{plain};
 ghost use Rattle.and_cells.specs.Seen.{LeadsTo};
@@ -29,6 +29,10 @@ use and_clause_index::count_in;
 use and_model::{ClauseNo, NodeNo, Ref};
 use and_program::{Loaded, NodeKind};
 use std::alloc::AllocError;
+
+/// So many structures, each the last part of the one before it, are looked into at most, lest a look in vain cost more
+/// than the trial that it is to save.
+const MOST_LINKS: u32 = 16;
 
 /// Whether a clause is seen to be a candidate of the call whose node is given, in the frame at the base: `false` says
 /// nothing. On a list that was empty are then the cells on which this rests. An error is want of memory.
@@ -410,7 +414,7 @@ fn give<N: Naming>(
 }
 
 /// Whether the term of a reference is seen to hold none of the cells on the list. The free cells that it holds are then
-/// on it too.
+/// on it too. Lists are gone along, by the last part of each structure.
 #[inline(always)]
 fn holds_none<N: Naming>(
     loaded: &Loaded,
@@ -423,30 +427,48 @@ fn holds_none<N: Naming>(
     requires part { IsPart N.program (length cells.now) part }
     ensures { result ≡ Ok true → HoldNone N.program cells.now held.old.items held.new.items (part ∷ []) }
 {
-    match end_of(cells, part) {
-        Ref::Cell(cell) => hold(cells, cell, held),
-        Ref::Node { node, base } => parts_hold_none(loaded, cells, node, base, held),
-        Ref::Number(_) => Ok(true),
-        Ref::Free => Ok(false),
-        Ref::Half(_) => Ok(false),
+    let mut at = part;
+    for _turn in 0..MOST_LINKS {
+        match end_of(cells, at) {
+            Ref::Cell(cell) => return hold(cells, cell, held),
+            Ref::Node { node, base } => {
+                let count = count_in(loaded.kind(node));
+                if count == 0 {
+                    return Ok(true);
+                }
+                let last = count - 1;
+                let none = parts_hold_none(loaded, cells, node, base, last, held)?;
+                if !none {
+                    return Ok(false);
+                }
+                at = loaded.resolve(loaded.argument(node, last), base);
+            }
+            Ref::Number(_) => return Ok(true),
+            Ref::Free => return Ok(false),
+            Ref::Half(_) => return Ok(false),
+        }
     }
+    Ok(false)
 }
 
-/// Whether so do the parts of a structure, which are free cells and constants.
+/// Whether so do that many first parts of a structure, which are free cells and constants.
 #[inline(always)]
 fn parts_hold_none<N: Naming>(
     loaded: &Loaded,
     cells: &PlainCells<N>,
     node: NodeNo,
     base: u32,
+    count: u8,
     held: &mut Vec<u32>,
 ) -> Result<bool, AllocError>
     requires program { N.program ≡ named loaded.now }
     requires falls { AllFall 0 N.program.skeleton.nodes }
     requires in_range { IsInRange N.program (length cells.now) (Ref.Node node base) }
-    ensures { result ≡ Ok true → HoldNone N.program cells.now held.old.items held.new.items (Ref.Node node base ∷ []) }
+    requires count { count ≤ length (arguments_at (skeleton_of loaded.now) node.0) }
+    ensures { result ≡ Ok true → HoldNone N.program cells.now held.old.items held.new.items
+        (map (part_at N.program base) (take count (arguments_at N.program.skeleton node.0))) }
 {
-    for place in 0..count_in(loaded.kind(node)) {
+    for place in 0..count {
         let part = loaded.resolve(loaded.argument(node, place), base);
         let none = part_holds_none(loaded, cells, part, held)?;
         if !none {

@@ -5,8 +5,7 @@ use Rattle.and_cells.specs.Ranges.{NamedProgram, IsInRangeOrHalf}
 use Rattle.and_cells.specs.Rows.{plain}
 use Rattle.and_cells.specs.Seen.{LeadsTo}
 use Rattle.and_program.specs.Shown.{count_of}
-use Rattle.and_determinacy.proofs.SureParts.{constant_ground, no_arguments}
-use Rattle.and_determinacy.proofs.SureRefs.{led_holds, number_holds, constant_holds, solid_node}
+use Rattle.and_determinacy.proofs.SureRefs.{led_holds, number_holds, bare_holds}
 use Rattle.and_determinacy.proofs.seeing.part_holds_none.Goals as goal
 
 pub returns-in-Cell : goal.returns-in-Cell
@@ -28,10 +27,9 @@ returns-in-Node g c = λ e.
     let fits = subst (IsInRangeOrHalf P (length row)) c.in-Node.is c.end_of.ensures.in_range in
     let counted = subst (λ (Q : NamedProgram). count_of c.kind.result ≡ length (arguments_at Q.skeleton node.0)) (sym c.requires.program)
     c.kind.ensures.count in
-    let empty = no_arguments (arguments_at P.skeleton node.0) c.count_in.result (c.count_in.ensures ∙ counted) nothing in
     led_holds P row held held c.args.part (Node node base) c.requires.part fits
     (subst (LeadsTo (plain row) c.args.part) c.in-Node.is c.end_of.ensures.leads)
-    (constant_holds P row held node base (constant_ground P c.requires.falls node.0 empty (solid_node P row (length row) node base fits)))
+    (bare_holds P row c.requires.falls held node base fits (sym (c.count_in.ensures ∙ counted) ∙ nothing))
 
 pub returns-in-Number : goal.returns-in-Number
 returns-in-Number g c = λ e.

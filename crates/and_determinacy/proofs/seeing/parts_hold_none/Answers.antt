@@ -1,16 +1,12 @@
-use Rattle.std.proofs.Common.{ℕ, ◌+◌, ◌≡◌, ◌<◌, ◌++◌, ◌∷◌, [], Ok, true, List, length, map, take, get_or, sym, ap, ◌∙◌, subst, arith, rules}
-use Rattle.std.specs.Prelude.{Contains}
-use Rattle.std.proofs.lemmas.List.{map-append, take_more, take_all, get_or_default}
+use Rattle.std.proofs.Common.{ℕ, ◌+◌, ◌≡◌, ◌<◌, ◌++◌, ◌∷◌, [], Ok, true, length, map, take, get_or, sym, ap, ◌∙◌, subst, arith, rules}
+use Rattle.std.proofs.lemmas.List.{map-append, take_more}
 use Rattle.and_model.specs.declared.reference.Ref.{Ref}
-use Rattle.and_model.specs.declared.reference.Ref.TheVariants.{Node}
 use Rattle.and_program.specs.Loaded.{arguments_at, skeleton_of}
 use Rattle.and_cells.specs.Ranges.{NamedProgram}
-use Rattle.and_cells.specs.Parts.{named, part_at, parts_of}
-use Rattle.and_cell_laws.proofs.Images.{contains_image}
-use Rattle.and_unify.proofs.TurnParts.{part_in_range}
+use Rattle.and_cells.specs.Parts.{named, part_at}
 use Rattle.and_determinacy.specs.Seeing.{HoldNone, IsPart}
-use Rattle.and_determinacy.proofs.SureParts.{is_part}
-use Rattle.and_determinacy.proofs.SureRefs.{nothing_holds, both_hold, structure_holds, solid_node}
+use Rattle.and_determinacy.proofs.SureParts.{argument_part}
+use Rattle.and_determinacy.proofs.SureRefs.{nothing_holds, both_hold}
 use Rattle.and_determinacy.proofs.seeing.parts_hold_none.Goals as goal
 
 pub loop-place-init : goal.loop-place-init
@@ -20,17 +16,13 @@ pub part_holds_none-requires-clause-part : goal.part_holds_none-requires-clause-
 part_holds_none-requires-clause-part g c =
     let P = g.N.Naming.program in
     let Q = named c.args.loaded.now in
+    let words = length c.args.cells.now in
     let base = c.args.base in
     let args = arguments_at (skeleton_of c.args.loaded.now) c.args.node.0 in
     let i = c.loop-place.place in
-    let m : ℕ = get_or args i 0 in
-    let low : i < length args = omega arith in
-    let part_is : c.resolve-part.result ≡ part_at Q base m = c.resolve-part.ensures ∙ ap (part_at Q base) c.argument.ensures.node in
-    let here = contains_image (part_at Q base) args m (i, low, sym (get_or_default args i 0 m low)) in
-    let fits = part_in_range P (length c.args.cells.now) (Node c.args.node base) (part_at P base m) c.requires.falls c.requires.in_range
-    (subst (λ (R : NamedProgram). Contains (parts_of R (Node c.args.node base)) (part_at R base m)) (sym c.requires.program) here) in
-    subst (IsPart P (length c.args.cells.now)) (ap (λ (R : NamedProgram). part_at R base m) c.requires.program ∙ sym part_is)
-    (is_part P (length c.args.cells.now) base m fits)
+    let low : i < length args = omega (arith, c.requires.count) in
+    subst (IsPart P words) (sym (c.resolve-part.ensures ∙ ap (part_at Q base) c.argument.ensures.node))
+    (argument_part P Q c.requires.program c.requires.falls words c.args.node base i c.requires.in_range low)
 
 pub loop-place-preserved : goal.loop-place-preserved
 loop-place-preserved g c =
@@ -41,7 +33,7 @@ loop-place-preserved g c =
     let args = arguments_at (skeleton_of c.args.loaded.now) c.args.node.0 in
     let i = c.loop-place.place in
     let m : ℕ = get_or args i 0 in
-    let low : i < length args = omega arith in
+    let low : i < length args = omega (arith, c.requires.count) in
     let part_is : c.resolve-part.result ≡ part_at Q base m = c.resolve-part.ensures ∙ ap (part_at Q base) c.argument.ensures.node in
     let holding : c.in_ok-none.none ≡ true = search rules in
     let new = c.part_holds_none.new.held.items in
@@ -61,7 +53,7 @@ returns g c = λ e.
     let held = c.args.held.now.items in
     let has = c.loop-place.held.items in
     let args = arguments_at (skeleton_of c.args.loaded.now) c.args.node.0 in
-    let all : take c.loop-place.place args ≡ args = take_all c.loop-place.place args (omega arith) in
-    let here = subst (λ (ns : List ℕ). HoldNone P row held has (map (part_at Q base) ns)) all c.loop-place.invariant in
-    structure_holds P row c.requires.falls held has c.args.node base (solid_node P row (length row) c.args.node base c.requires.in_range)
-    (subst (λ (R : NamedProgram). HoldNone P row held has (map (part_at R base) (arguments_at R.skeleton c.args.node.0))) (sym c.requires.program) here)
+    let all : c.loop-place.place ≡ c.args.count = omega arith in
+    let here = subst (λ (n : ℕ). HoldNone P row held has (map (part_at Q base) (take n args))) all c.loop-place.invariant in
+    subst (λ (R : NamedProgram). HoldNone P row held has (map (part_at R base) (take c.args.count (arguments_at R.skeleton c.args.node.0))))
+    (sym c.requires.program) here

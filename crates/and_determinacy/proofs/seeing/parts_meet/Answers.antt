@@ -1,19 +1,15 @@
 use Rattle.std.proofs.Common.{ℕ, ◌+◌, ◌≡◌, ◌<◌, ◌++◌, ◌∷◌, [], Ok, true, List, length, take, get_or, sym, ap, ◌∙◌, subst, arith, rules}
-use Rattle.std.specs.Prelude.{Contains}
-use Rattle.std.proofs.lemmas.List.{take_more, take_all, get_or_default, length-take}
+use Rattle.std.proofs.lemmas.List.{take_more, take_all, length-take}
 use Rattle.and_model.specs.Terms.{framed}
 use Rattle.and_model.specs.Solutions.{Equation}
 use Rattle.and_model.specs.declared.reference.Ref.{Ref}
-use Rattle.and_model.specs.declared.reference.Ref.TheVariants.{Node}
 use Rattle.and_program.specs.Loaded.{arguments_at, skeleton_of}
 use Rattle.and_program.specs.Skeletons.{node_term}
 use Rattle.and_cells.specs.Ranges.{NamedProgram}
-use Rattle.and_cells.specs.Parts.{named, part_at, parts_of}
-use Rattle.and_cell_laws.proofs.Images.{contains_image}
+use Rattle.and_cells.specs.Parts.{named, part_at}
 use Rattle.and_branch_laws.specs.Judging.{outside}
-use Rattle.and_unify.proofs.TurnParts.{part_in_range}
 use Rattle.and_determinacy.specs.Seeing.{Meets, IsPart, argument_pairs, ref_term}
-use Rattle.and_determinacy.proofs.SureParts.{is_part, pairs_more}
+use Rattle.and_determinacy.proofs.SureParts.{argument_part, pairs_more}
 use Rattle.and_determinacy.proofs.SureSteps.{nothing_meets, both_meet}
 use Rattle.and_determinacy.proofs.seeing.parts_meet.Goals as goal
 
@@ -27,17 +23,13 @@ pub part_meets-requires-clause-in_range : goal.part_meets-requires-clause-in_ran
 part_meets-requires-clause-in_range g c =
     let P = g.N.Naming.program in
     let Q = named c.args.loaded.now in
+    let words = length c.args.cells.now in
     let base = c.args.base in
     let args = arguments_at (skeleton_of c.args.loaded.now) c.args.node.0 in
     let i = c.loop-place.place in
-    let m : ℕ = get_or args i 0 in
     let low : i < length args = omega (arith, c.requires.as_many) in
-    let part_is : c.resolve-part.result ≡ part_at Q base m = c.resolve-part.ensures ∙ ap (part_at Q base) c.argument.ensures.node in
-    let here = contains_image (part_at Q base) args m (i, low, sym (get_or_default args i 0 m low)) in
-    let fits = part_in_range P (length c.args.cells.now) (Node c.args.node base) (part_at P base m) c.requires.falls c.requires.in_range
-    (subst (λ (R : NamedProgram). Contains (parts_of R (Node c.args.node base)) (part_at R base m)) (sym c.requires.program) here) in
-    subst (IsPart P (length c.args.cells.now)) (ap (λ (R : NamedProgram). part_at R base m) c.requires.program ∙ sym part_is)
-    (is_part P (length c.args.cells.now) base m fits)
+    subst (IsPart P words) (sym (c.resolve-part.ensures ∙ ap (part_at Q base) c.argument.ensures.node))
+    (argument_part P Q c.requires.program c.requires.falls words c.args.node base i c.requires.in_range low)
 
 pub loop-place-preserved : goal.loop-place-preserved
 loop-place-preserved g c =
