@@ -1,6 +1,8 @@
 pub mod Fitted
 pub mod FreeCalls
 pub mod Growing
+pub mod Noted
+pub mod Parted
 pub mod Picking
 pub mod Prepared
 pub mod Resting

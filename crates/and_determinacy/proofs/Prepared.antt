@@ -203,7 +203,8 @@ module _ (P : NamedProgram) (loaded : IsLoaded P) (row : List Ref) (short : leng
       not_both false e f = true≢false (sym e)
 
   -- So it is one exactly where nothing was found that refutes it.
-  pub tried : (new : List Ref) → Settles P wide new (call_and_head P b n floor asked) Solved → (items : List NodeItem) → items ≡ (nodes_at P.skeleton c).items → (found : Bool)
+  pub tried : (new : List Ref) → Settles P wide new (call_and_head P b n floor asked) Solved
+      → (items : List NodeItem) → items ≡ (nodes_at P.skeleton c).items → (found : Bool)
       → (found ≡ true) ↔ IsGuardFalse P new floor items → (answer : Bool) → not found ≡ answer
       → (answer ≡ true) ↔ Candidate P.program (equations_of P row) outside (placed b (node_term P.skeleton.nodes n)) c
   tried new settles items own found told answer same =

@@ -23,11 +23,11 @@ use Rattle.and_cells.proofs.OneTerm.{apply_agree}
 use Rattle.and_branch_laws.specs.Variables.{cells_from, placed}
 use Rattle.and_branch_laws.specs.Judging.{outside}
 use Rattle.and_branch_laws.proofs.Widening.{solved_alike}
-use Rattle.and_determinacy.specs.Seeing.{AgreeUpTo, IsEarly, AreEarly, only, LacksEach, ref_term, IsNoted, IsGiven, IsPart}
+use Rattle.and_determinacy.specs.Seeing.{AgreeUpTo, SpeaksOf, SpeakOf, only, LacksEach, ref_term, IsNoted, IsGiven, IsPart}
 
 -- ---- Terms that speak of cells and the first variables
 
-placed_early : (n base : ℕ) (t : Term) → IsEarly n (placed base t)
+placed_early : (n base : ℕ) (t : Term) → SpeaksOf n (placed base t)
 placed_early n base t = record {
   same = λ s z agree.
       apply_then (cells_from base) s t
@@ -35,33 +35,33 @@ placed_early n base t = record {
       ∙ sym (apply_then (cells_from base) z t);
 }
 
-pub cell_early : (n cell : ℕ) → IsEarly n (cell_variable cell)
+pub cell_early : (n cell : ℕ) → SpeaksOf n (cell_variable cell)
 cell_early n cell = record { same = λ s z agree. agree.0 cell }
 
-pub ref_early : (P : NamedProgram) (n : ℕ) (r : Ref) → IsEarly n (ref_term P r)
+pub ref_early : (P : NamedProgram) (n : ℕ) (r : Ref) → SpeaksOf n (ref_term P r)
 ref_early P n Free = cell_early n 0
 ref_early P n (Cell cell) = cell_early n cell
 ref_early P n (Node node base) = placed_early n base (node_term P.skeleton.nodes node.0)
 ref_early P n (Number pair) = cell_early n 0
 ref_early P n (Half bits) = cell_early n 0
 
-pub variable_early : (n k : ℕ) → k < n → IsEarly n (variable outside k)
+pub variable_early : (n k : ℕ) → k < n → SpeaksOf n (variable outside k)
 variable_early n k low = record { same = λ s z agree. agree.1 k low }
 
-pub early_later : (n m : ℕ) (t : Term) → n ≤ m → IsEarly n t → IsEarly m t
+pub early_later : (n m : ℕ) (t : Term) → n ≤ m → SpeaksOf n t → SpeaksOf m t
 early_later n m t up early = record { same = λ s z agree. early.same s z (agree.0, λ k low. agree.1 k (omega arith)) }
 
-pub are_early_later : (n m : ℕ) (es : List Equation) → n ≤ m → AreEarly n es → AreEarly m es
+pub are_early_later : (n m : ℕ) (es : List Equation) → n ≤ m → SpeakOf n es → SpeakOf m es
 are_early_later n m [] up early = tt
 are_early_later n m (e ∷ es) up early =
     (early_later n m e.0 up early.0, early_later n m e.1 up early.1, are_early_later n m es up early.2)
 
-pub early_join : (n : ℕ) (es ds : List Equation) → AreEarly n es → AreEarly n ds → AreEarly n (es ++ ds)
+pub early_join : (n : ℕ) (es ds : List Equation) → SpeakOf n es → SpeakOf n ds → SpeakOf n (es ++ ds)
 early_join n [] ds one other = other
 early_join n (e ∷ es) ds one other = (one.0, one.1, early_join n es ds one.2 other)
 
 -- What gives these the same solves what speaks of them alone.
-pub early_solves : (n : ℕ) (s z : Substitution) (ds : List Equation) → AgreeUpTo n s z → AreEarly n ds → Solves s ds → Solves z ds
+pub early_solves : (n : ℕ) (s z : Substitution) (ds : List Equation) → AgreeUpTo n s z → SpeakOf n ds → Solves s ds → Solves z ds
 early_solves n s z [] agree early solves = tt
 early_solves n s z (d ∷ ds) agree early solves = (
   sym (early.0.same s z agree) ∙ solves.0 ∙ early.1.same s z agree,

@@ -1,5 +1,5 @@
 -- What references lead to, and structures whose arguments are met.
-use Rattle.std.proofs.Common.{ℕ, ℤ, ◌≡◌, ◌≢◌, ◌<◌, true, false, List, [], ◌∷◌, ◌++◌, length, map, get_or}
+use Rattle.std.proofs.Common.{ℕ, ℤ, ◌≡◌, ◌≢◌, ◌<◌, true, false, List, [], ◌∷◌, ◌++◌, length, map, get_or, zero, suc, take}
 use Rattle.std.proofs.Common.{refl, sym, ap, ◌∙◌, subst, arith}
 use Rattle.std.specs.Prelude.{Contains}
 use Rattle.std.proofs.lemmas.List.{get_or_default}
@@ -31,7 +31,7 @@ use Rattle.and_cell_laws.proofs.Structures.{node_term_shape}
 use Rattle.and_branch_laws.specs.Variables.{cells_from, placed}
 use Rattle.and_branch_laws.specs.Judging.{outside}
 use Rattle.and_unify.proofs.TurnParts.{part_in_range}
-use Rattle.and_determinacy.specs.Seeing.{AgreeUpTo, IsEarly, AreEarly, ref_term, argument_pairs, IsPart, Meets, AreLacking}
+use Rattle.and_determinacy.specs.Seeing.{AgreeUpTo, ref_term, argument_pairs, IsPart, Meets, AreLacking, SpeaksOf, SpeakOf}
 use Rattle.and_determinacy.proofs.SureHeads.{ref_early, value_of_ref}
 use Rattle.and_determinacy.proofs.SureSteps.{frame, meets_so, cell_filled, whole_lacks, all_lack, all_early}
 
@@ -75,7 +75,7 @@ resolved_part P words (Skeletons.variable k) node base fits = fits
 resolved_part P words (Skeletons.number z) node base fits = fits
 resolved_part P words (Skeletons.compound name ns) node base fits = fits
 
-is_part : (P : NamedProgram) (words base n : ℕ) → IsInRange P words (part_at P base n) → IsPart P words (part_at P base n)
+pub is_part : (P : NamedProgram) (words base n : ℕ) → IsInRange P words (part_at P base n) → IsPart P words (part_at P base n)
 is_part P words base n fits = resolved_part P words (shape_at P.skeleton n) (record { 0 = n }) base fits
 
 -- So is an argument of a structure that is in range, by whichever of two equal programs it is found.
@@ -91,20 +91,31 @@ argument_part P Q same fall words node base i fits low =
     subst (λ (R : NamedProgram). IsPart P words (part_at R base m)) same (is_part P words base m in_range)
 
 module _ (P : NamedProgram) (row : List Ref) where
-  -- So what meets that meets the reference.
+  -- So it has its term,
+  led_term : (later : List Ref) (s : Substitution) → Grows row later → Solves s (equations_of P later) → (from to : Ref) → IsPart P (length row) from
+      → IsPart P (length row) to → LeadsTo (plain row) from to → apply s (ref_term P from) ≡ apply s (ref_term P to)
+  led_term later s grows solves from to begins ends leads =
+      same_Some (apply s (ref_term P from)) (apply s (ref_term P to))
+      (sym (value_of_ref P (word_at later) s (length row) from begins)
+      ∙ led_value P row later s grows solves from to leads (part_whole P (length row) to ends)
+      ∙ value_of_ref P (word_at later) s (length row) to ends)
+
+  grows_itself : Grows row row
+  grows_itself = record { longer = omega arith; set = λ place r is. is }
+
+  pub led_now : (s : Substitution) → Solves s (equations_of P row) → (from to : Ref) → IsPart P (length row) from → IsPart P (length row) to
+      → LeadsTo (plain row) from to → apply s (ref_term P from) ≡ apply s (ref_term P to)
+  led_now s solves from to begins ends leads = led_term row s grows_itself solves from to begins ends leads
+
+  -- and what meets that meets the reference.
   pub led_meets : (held has : List ℕ) (given gives : List Ref) (from to : Ref) (x : Term) → IsPart P (length row) from → IsPart P (length row) to
       → LeadsTo (plain row) from to → Meets P row held has given gives ((ref_term P to, x) ∷ [])
       → Meets P row held has given gives ((ref_term P from, x) ∷ [])
   led_meets held has given gives from to x begins ends leads meets =
       meets_so P row held has given gives ((ref_term P to, x) ∷ []) ((ref_term P from, x) ∷ []) meets
       (λ early. (ref_early P (length gives) from, early.1, tt))
-      (λ later grows sound s is met.
-      let words : ℕ = length row in
-      let same = led_value P row later s grows is.solves from to leads (part_whole P words to ends) in
-      let one : apply s (ref_term P from) ≡ apply s (ref_term P to) =
-      same_Some (apply s (ref_term P from)) (apply s (ref_term P to))
-      (sym (value_of_ref P (word_at later) s words from begins) ∙ same ∙ value_of_ref P (word_at later) s words to ends) in
-      (one ∙ met.0, tt))
+      (λ later grows sound s is met. (led_term later s grows is.solves from to begins ends leads ∙ met.0, tt))
+      (λ s solves noted met. (sym (led_term row s grows_itself solves from to begins ends leads) ∙ met.0, tt))
 
 module _ (P : NamedProgram) (fall : AllFall 0 P.skeleton.nodes) where
   abbrev ts : List Term
@@ -151,8 +162,28 @@ module _ (P : NamedProgram) (fall : AllFall 0 P.skeleton.nodes) where
       ∙ ap (λ (us : Terms). more (apply s (framed outside (node_term P.skeleton.nodes h))) us)
       (pairs_solve base s ns hs (omega arith) solves.1)
 
+  pub solved_pairs : (base : ℕ) (s : Substitution) (ns hs : List ℕ) → length ns ≡ length hs
+      → apply_all s (apply_all (cells_from base) (term_list (map (nth ts) ns))) ≡ apply_all s (apply_all frame (term_list (map (nth ts) hs)))
+      → Solves s (argument_pairs P base ns hs)
+  solved_pairs base s [] hs e same = tt
+  solved_pairs base s (n ∷ ns) [] e same = absurd (omega arith)
+  solved_pairs base s (n ∷ ns) (h ∷ hs) e same =
+      let t : Term = apply s (placed base (node_term P.skeleton.nodes n)) in
+      let u : Term = apply s (framed outside (node_term P.skeleton.nodes h)) in
+      let us : Terms = apply_all s (apply_all (cells_from base) (term_list (map (nth ts) ns))) in
+      let vs : Terms = apply_all s (apply_all frame (term_list (map (nth ts) hs))) in
+      let both : more t us ≡ more u vs = same in
+      (cc, solved_pairs base s ns hs (omega arith) (cc))
+
+  pub pairs_front : (base : ℕ) (s : Substitution) (i : ℕ) (ns hs : List ℕ) → Solves s (argument_pairs P base ns hs)
+      → Solves s (argument_pairs P base (take i ns) (take i hs))
+  pairs_front base s zero ns hs solves = tt
+  pairs_front base s (suc i) [] hs solves = tt
+  pairs_front base s (suc i) (n ∷ ns) [] solves = tt
+  pairs_front base s (suc i) (n ∷ ns) (h ∷ hs) solves = (solves.0, pairs_front base s i ns hs solves.1)
+
   pairs_early : (n base : ℕ) (s z : Substitution) → AgreeUpTo n s z → (ns hs : List ℕ) → length ns ≡ length hs
-      → AreEarly n (argument_pairs P base ns hs)
+      → SpeakOf n (argument_pairs P base ns hs)
       → apply_all s (apply_all frame (term_list (map (nth ts) hs))) ≡ apply_all z (apply_all frame (term_list (map (nth ts) hs)))
   pairs_early n base s z agree [] [] e early = refl
   pairs_early n base s z agree [] (h ∷ hs) e early = absurd (omega arith)
@@ -180,7 +211,19 @@ module _ (P : NamedProgram) (fall : AllFall 0 P.skeleton.nodes) where
           ap (λ (u : Term). apply s (placed base u)) one ∙ ap (apply s) (apply_ground (cells_from base) t ground) ∙ apply_ground s t ground
               ∙ sym (fixed s),
           tt,
-        ))
+        )) (λ s solves noted met. tt)
+
+    -- Structures of one name are one where their arguments are.
+    arguments_solved : (name : ℕ) (ns hs : List ℕ) → shape_at P.skeleton node.0 ≡ Skeletons.compound name ns
+        → shape_at P.skeleton asked ≡ Skeletons.compound name hs → length ns ≡ length hs → (s : Substitution) → Solves s two
+        → Solves s (argument_pairs P base ns hs)
+    arguments_solved name ns hs one other e s met =
+        let us : Terms = apply_all s (apply_all (cells_from base) (term_list (map (nth ts) ns))) in
+        let vs : Terms = apply_all s (apply_all frame (term_list (map (nth ts) hs))) in
+        let both : compound name us ≡ compound name vs =
+        sym (ap (λ (t : Term). apply s (placed base t)) (compound_is node.0 name ns one)) ∙ met.0
+        ∙ ap (λ (t : Term). apply s (framed outside t)) (compound_is asked name hs other) in
+        solved_pairs base s ns hs e (cc)
 
     -- one name, and arguments that are met
     compounds_meet : (name : ℕ) (ns hs : List ℕ) → shape_at P.skeleton node.0 ≡ Skeletons.compound name ns
@@ -192,7 +235,7 @@ module _ (P : NamedProgram) (fall : AllFall 0 P.skeleton.nodes) where
         meets_so P row held has given gives (argument_pairs P base ns hs) two meets
         (λ early. (
           ref_early P (length gives) (Node node base),
-          subst (λ (t : Term). IsEarly (length gives) (framed outside t)) (sym right)
+          subst (λ (t : Term). SpeaksOf (length gives) (framed outside t)) (sym right)
               (record { same = λ s z agree. ap (compound name) (pairs_early (length gives) base s z agree ns hs e early) }),
           tt,
         ))
@@ -200,7 +243,7 @@ module _ (P : NamedProgram) (fall : AllFall 0 P.skeleton.nodes) where
           ap (λ (t : Term). apply s (placed base t)) left ∙ ap (compound name) (pairs_solve base s ns hs e met)
               ∙ sym (ap (λ (t : Term). apply s (framed outside t)) right),
           tt,
-        ))
+        )) (λ s solves noted met. arguments_solved name ns hs one other e s met)
 
     by_shapes : (a b : Shape) → shape_at P.skeleton node.0 ≡ a → shape_at P.skeleton asked ≡ b → shown a ≡ shown b
         → ((k : ℕ) → shape_at P.skeleton asked ≢ Skeletons.variable k)
@@ -217,6 +260,21 @@ module _ (P : NamedProgram) (fall : AllFall 0 P.skeleton.nodes) where
         let name : c ≡ d = ap named_in kinds in
         let counts : length ns ≡ length hs = ap count_of kinds in
         compounds_meet d ns hs (one ∙ ap (λ (x : ℕ). Skeletons.compound x ns) name) other counts meets
+
+    parts_by_shapes : (a b : Shape) → shape_at P.skeleton node.0 ≡ a → shape_at P.skeleton asked ≡ b → shown a ≡ shown b
+        → (s : Substitution) → Solves s two → Solves s (argument_pairs P base (arguments_in a) (arguments_in b))
+    parts_by_shapes (Skeletons.variable j) b one other kinds s met = tt
+    parts_by_shapes (Skeletons.number y) b one other kinds s met = tt
+    parts_by_shapes (Skeletons.compound c ns) (Skeletons.variable k) one other kinds s met = absurd (cc)
+    parts_by_shapes (Skeletons.compound c ns) (Skeletons.number z) one other kinds s met = absurd (cc)
+    parts_by_shapes (Skeletons.compound c ns) (Skeletons.compound d hs) one other kinds s met =
+        let name : c ≡ d = ap named_in kinds in
+        arguments_solved d ns hs (one ∙ ap (λ (x : ℕ). Skeletons.compound x ns) name) other (ap count_of kinds) s met
+
+    -- What makes structures of one kind one makes their arguments one.
+    pub structures_one : shown (shape_at P.skeleton node.0) ≡ shown (shape_at P.skeleton asked) → (s : Substitution) → Solves s two
+        → Solves s (argument_pairs P base (arguments_at P.skeleton node.0) (arguments_at P.skeleton asked))
+    structures_one kinds s met = parts_by_shapes (shape_at P.skeleton node.0) (shape_at P.skeleton asked) refl refl kinds s met
 
     -- So a structure meets one of its kind where the arguments do.
     pub structure_meets : shown (shape_at P.skeleton node.0) ≡ shown (shape_at P.skeleton asked)

@@ -24,7 +24,7 @@ use Rattle.and_cells.specs.Meaning.{cell_variable, equations_of, number_in}
 use Rattle.and_cells.specs.Parts.{part_at}
 use Rattle.and_branch_laws.specs.Variables.{cells_from, placed}
 use Rattle.and_branch_laws.specs.Judging.{outside}
-use Rattle.and_determinacy.specs.Seeing.{IsEarly, only, LacksEach, ref_term, IsNoted, IsPart, IsUsable, Meets, AreLacking, HoldNone}
+use Rattle.and_determinacy.specs.Seeing.{SpeaksOf, only, LacksEach, ref_term, IsNoted, MayBeNoted, IsPart, IsUsable, Meets, AreLacking, HoldNone}
 use Rattle.and_determinacy.proofs.SureHeads.{ref_early, variable_early, value_of_ref, only_other}
 use Rattle.and_determinacy.proofs.SureParts.{led_value, part_whole, compound_is, number_is, ref_of_part, constant_ground, no_arguments}
 use Rattle.and_determinacy.proofs.SureSteps.{free_front, longer_twice, leaves_more, lacks_fewer, meets_so, cell_filled}
@@ -205,6 +205,7 @@ module _ (P : NamedProgram) (row : List Ref) where
         free = holds.free;
         usable = λ all. all;
         early = ref_early P (length given) other;
+        noted = λ s noted. noted;
         lacks = λ later grows sound settled free s is. (
           record {
             solves = is.solves;
@@ -220,7 +221,7 @@ module _ (P : NamedProgram) (row : List Ref) where
       → Meets P row held has given gives ((y, x) ∷ [])
   meets_back held has given gives x y meets =
       meets_so P row held has given gives ((x, y) ∷ []) ((y, x) ∷ []) meets (λ early. (early.1, early.0, tt))
-      (λ later grows sound s is met. (sym met.0, tt))
+      (λ later grows sound s is met. (sym met.0, tt)) (λ s solves noted met. (sym met.0, tt))
 
   -- what was noted of a variable it is
   noted_value : (later : List Ref) (s : Substitution) (k : ℕ) (r : Ref) → IsPart P (length row) r → IsNoted P later s k r
@@ -228,6 +229,10 @@ module _ (P : NamedProgram) (row : List Ref) where
   noted_value later s k r fits (inl fresh) = absurd (subst (IsPart P (length row)) fresh.0 fits)
   noted_value later s k r fits (inr told) =
       same_Some (apply s (ref_term P r)) (s outside k) (sym (value_of_ref P (word_at later) s (length row) r fits) ∙ told)
+
+  pub noted_term : (s : Substitution) (k : ℕ) (r : Ref) → IsPart P (length row) r → MayBeNoted P s k r → apply s (ref_term P r) ≡ s outside k
+  noted_term s k r fits (inl unset) = absurd (subst (IsPart P (length row)) unset fits)
+  noted_term s k r fits (inr is) = is
 
   -- A variable is met again where what was noted of it is,
   pub noted_meets : (held has : List ℕ) (given : List Ref) (part : Ref) (k : ℕ) → k < length given → IsPart P (length row) (get_or given k Free)
@@ -237,6 +242,7 @@ module _ (P : NamedProgram) (row : List Ref) where
       meets_so P row held has given given ((ref_term P part, ref_term P (get_or given k Free)) ∷ []) ((ref_term P part, variable outside k) ∷ []) meets
       (λ early. (early.0, variable_early (length given) k low, tt))
       (λ later grows sound s is met. (met.0 ∙ noted_value later s k (get_or given k Free) fits (is.seen k low), tt))
+      (λ s solves noted met. (met.0 ∙ sym (noted_term s k (get_or given k Free) fits (noted k low)), tt))
 
   -- and lacks what that lacks.
   pub noted_lacks : (held has : List ℕ) (given : List Ref) (h k : ℕ) → node_term P.skeleton.nodes h ≡ variable [] k → k < length given
@@ -254,8 +260,9 @@ module _ (P : NamedProgram) (row : List Ref) where
         taller = omega arith;
         free = holds.free;
         usable = λ all. all;
-        early = λ j c. subst (λ (i : ℕ). IsEarly (length given) (framed outside (node_term P.skeleton.nodes i))) (sym (one j c))
-            (subst (IsEarly (length given)) (sym is_variable) (variable_early (length given) k low));
+        early = λ j c. subst (λ (i : ℕ). SpeaksOf (length given) (framed outside (node_term P.skeleton.nodes i))) (sym (one j c))
+            (subst (SpeaksOf (length given)) (sym is_variable) (variable_early (length given) k low));
+        noted = λ s noted. noted;
         lacks = λ later grows sound settled free s is. (
           record {
             solves = is.solves;

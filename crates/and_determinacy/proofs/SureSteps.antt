@@ -10,16 +10,17 @@ use Rattle.and_model.specs.declared.reference.Ref.{Ref}
 use Rattle.and_model.specs.declared.reference.Ref.TheVariants.{Free}
 use Rattle.and_program.specs.Skeletons.{term_list, nth, terms_behind, node_term}
 use Rattle.and_laws.proofs.Ordered.{contains_first, contains_more, contains_cases, contains_none}
-use Rattle.and_laws.proofs.Solving.{solves_then, solves_join}
+use Rattle.and_laws.proofs.Solving.{solves_then, solves_join, solves_front, solves_back}
 use Rattle.and_laws.proofs.Substitutions.{then, apply_ground}
 use Rattle.and_cells.specs.Ranges.{NamedProgram}
 use Rattle.and_cells.specs.Rows.{IsSound}
 use Rattle.and_cells.specs.Seen.{word_at, Grows, AreFree}
-use Rattle.and_cells.specs.Meaning.{cell_variable}
+use Rattle.and_cells.specs.Meaning.{cell_variable, equations_of}
 use Rattle.and_branch_laws.specs.Judging.{outside}
 use Rattle.and_branch_laws.proofs.Lists.{all_left}
-use Rattle.and_determinacy.specs.Seeing.{AgreeUpTo, IsEarly, AreEarly, only, LacksEach, ref_term, IsNoted, LeavesOthers, IsGiven}
-use Rattle.and_determinacy.specs.Seeing.{IsPart, IsUsable, Meets, AreLacking, IsLacking}
+use Rattle.and_determinacy.specs.Seeing.{AgreeUpTo, SpeaksOf, SpeakOf, only, LacksEach, ref_term, IsNoted, LeavesOthers, IsGiven}
+use Rattle.and_determinacy.specs.Seeing.{IsPart, IsUsable, AreNoted, Meets, AreLacking, IsLacking}
+use Rattle.and_determinacy.proofs.Noted.{pushed_noted}
 use Rattle.and_determinacy.proofs.SureHeads.{cell_early, ref_early, variable_early, early_later, are_early_later, early_join, early_solves, value_of_ref}
 use Rattle.and_determinacy.proofs.SureHeads.{given_then, becomes, noting, is_noting, noting_agrees, noting_given, fresh_noted}
 
@@ -55,6 +56,7 @@ module _ (P : NamedProgram) (row : List Ref) where
     free = λ all. all;
     usable = λ all. all;
     early = tt;
+    noted = λ s solves met noted. noted;
     goes = λ later grows sound settled free s is. record { to = s; is = is; keeps = λ ds early solves. solves; solves = tt };
   }
 
@@ -64,7 +66,7 @@ module _ (P : NamedProgram) (row : List Ref) where
   both_meet held mid has given middle gives es ds one other =
       let up = one.taller in
       let higher = other.taller in
-      let early : AreEarly (length gives) es = are_early_later (length middle) (length gives) es higher one.early in
+      let early : SpeakOf (length gives) es = are_early_later (length middle) (length gives) es higher one.early in
       record {
         gained = one.gained ++ other.gained;
         longer = longer_twice held mid has one.gained other.gained one.longer other.longer;
@@ -72,6 +74,8 @@ module _ (P : NamedProgram) (row : List Ref) where
         free = λ all. other.free (one.free all);
         usable = λ all. other.usable (one.usable all);
         early = early_join (length gives) es ds early other.early;
+        noted = λ s solves met noted.
+            other.noted s solves (solves_back s es ds met) (one.noted s solves (solves_front s es ds met) noted);
         goes = λ later grows sound settled free s is.
             let first = one.goes later grows sound settled (free_front later mid has other.gained other.longer free) s is in
             let second = other.goes later grows sound settled free first.to first.is in
@@ -86,16 +90,18 @@ module _ (P : NamedProgram) (row : List Ref) where
 
   -- Other equations are met that follow.
   pub meets_so : (held has : List ℕ) (given gives : List Ref) (es ds : List Equation) → Meets P row held has given gives es
-      → (AreEarly (length gives) es → AreEarly (length gives) ds)
+      → (SpeakOf (length gives) es → SpeakOf (length gives) ds)
       → ((later : List Ref) → Grows row later → IsSound P later → (s : Substitution) → IsGiven P later has gives s → Solves s es → Solves s ds)
+      → ((s : Substitution) → Solves s (equations_of P row) → AreNoted P given s → Solves s ds → Solves s es)
       → Meets P row held has given gives ds
-  meets_so held has given gives es ds meets early follows = record {
+  meets_so held has given gives es ds meets early follows back = record {
     gained = meets.gained;
     longer = meets.longer;
     taller = meets.taller;
     free = meets.free;
     usable = meets.usable;
     early = early meets.early;
+    noted = λ s solves met noted. meets.noted s solves (back s solves noted met) noted;
     goes = λ later grows sound settled free s is.
         let on = meets.goes later grows sound settled free s is in
         record {
@@ -121,6 +127,7 @@ module _ (P : NamedProgram) (row : List Ref) where
         free = λ all. all;
         usable = λ all. All-push (IsUsable P (length row)) given part all (inr fits);
         early = (ref_early P new part, variable_early new n (omega (arith, pushed)), tt);
+        noted = λ s solves met noted. pushed_noted P given part s (inr met.0) noted;
         goes = λ later grows sound settled free s is.
             let x : Term = apply s (ref_term P part) in
             let z : Substitution = noting n x s in
@@ -142,6 +149,7 @@ module _ (P : NamedProgram) (row : List Ref) where
     free = λ all. all;
     usable = λ all. all;
     early = λ h c. absurd (contains_none h c);
+    noted = λ s noted. noted;
     lacks = λ later grows sound settled free s is. (is, λ h c. absurd (contains_none h c));
   }
 
@@ -163,6 +171,7 @@ module _ (P : NamedProgram) (row : List Ref) where
           | inl before ↦ early_later (length middle) (length gives) (framed outside (node_term P.skeleton.nodes k)) higher (one.early k before)
           | inr last ↦ other.early k last
         ];
+        noted = λ s noted. other.noted s (one.noted s noted);
         lacks = λ later grows sound settled free s is.
             let first = one.lacks later grows sound settled (free_front later mid has other.gained other.longer free) s is in
             let second = other.lacks later grows sound settled free s first.0 in (
@@ -193,7 +202,8 @@ module _ (P : NamedProgram) (row : List Ref) where
         taller = omega arith;
         free = λ all. all;
         usable = λ all. all;
-        early = only_one h (λ (k : ℕ). IsEarly (length given) (head_term k)) (record { same = λ s z agree. fixed s ∙ sym (fixed z) });
+        early = only_one h (λ (k : ℕ). SpeaksOf (length given) (head_term k)) (record { same = λ s z agree. fixed s ∙ sym (fixed z) });
+        noted = λ s noted. noted;
         lacks = λ later grows sound settled free s is. (
           is,
           only_one h (λ (k : ℕ). LacksEach held (apply s (head_term k)))
@@ -218,8 +228,9 @@ module _ (P : NamedProgram) (row : List Ref) where
         taller = omega (arith, pushed);
         free = λ all. all;
         usable = λ all. All-push (IsUsable P (length row)) given Free all (inl refl);
-        early = only_one h (λ (k : ℕ). IsEarly new (head_term k))
-            (subst (IsEarly new) (sym is_variable) (variable_early new n (omega (arith, pushed))));
+        early = only_one h (λ (k : ℕ). SpeaksOf new (head_term k))
+            (subst (SpeaksOf new) (sym is_variable) (variable_early new n (omega (arith, pushed))));
+        noted = λ s noted. pushed_noted P given Free s (inl refl) noted;
         lacks = λ later grows sound settled free s is. (
           fresh_noted P later held given s is Free refl,
           only_one h (λ (k : ℕ). LacksEach held (apply s (head_term k)))
@@ -239,7 +250,8 @@ module _ (P : NamedProgram) (row : List Ref) where
         taller = omega arith;
         free = λ all. all;
         usable = λ all. all;
-        early = only_one h (λ (j : ℕ). IsEarly n (head_term j)) (subst (IsEarly n) (sym is_variable) (variable_early n k low));
+        early = only_one h (λ (j : ℕ). SpeaksOf n (head_term j)) (subst (SpeaksOf n) (sym is_variable) (variable_early n k low));
+        noted = λ s noted. noted;
         lacks = λ later grows sound settled free s is. (
           is,
           only_one h (λ (j : ℕ). LacksEach held (apply s (head_term j)))
@@ -265,7 +277,7 @@ module _ (P : NamedProgram) (row : List Ref) where
       ap (λ (t : Term). more t (apply_all (only cell u) ts)) ((each h (contains_first h hs)).stays cell c u)
       ∙ ap (λ (us : Terms). more (apply s (head_term h)) us) (all_lack held s cell u c hs (λ k i. each k (contains_more h k hs i)))
 
-  pub all_early : (n : ℕ) (s z : Substitution) → AgreeUpTo n s z → (hs : List ℕ) → ((h : ℕ) → Contains hs h → IsEarly n (head_term h))
+  pub all_early : (n : ℕ) (s z : Substitution) → AgreeUpTo n s z → (hs : List ℕ) → ((h : ℕ) → Contains hs h → SpeaksOf n (head_term h))
       → apply_all s (apply_all frame (term_list (map (nth (terms_behind [] P.skeleton.nodes)) hs)))
       ≡ apply_all z (apply_all frame (term_list (map (nth (terms_behind [] P.skeleton.nodes)) hs)))
   all_early n s z agree [] each = refl
@@ -288,6 +300,7 @@ module _ (P : NamedProgram) (row : List Ref) where
         free = λ all. are.free (All-push (λ (c : ℕ). word_at row c ≡ Free) held cell all was_free);
         usable = are.usable;
         early = (cell_early (length gives) cell, are.early, tt);
+        noted = λ s solves met noted. are.noted s noted;
         goes = λ later grows sound settled free s is.
             let long = grows.longer in
             let begun : IsGiven P later mid given s = record {
@@ -310,7 +323,7 @@ module _ (P : NamedProgram) (row : List Ref) where
   -- What the arguments make lacks what each of them lacks.
   pub whole_lacks : (x : Term) (hs : List ℕ) (held has : List ℕ) (given gives : List Ref)
       → ((s : Substitution) → ((h : ℕ) → Contains hs h → LacksEach held (apply s (head_term h))) → LacksEach held (apply s x))
-      → (((h : ℕ) → Contains hs h → IsEarly (length gives) (head_term h)) → IsEarly (length gives) x)
+      → (((h : ℕ) → Contains hs h → SpeaksOf (length gives) (head_term h)) → SpeaksOf (length gives) x)
       → AreLacking P row held has given gives hs → IsLacking P row held has given gives x
   whole_lacks x hs held has given gives whole early are = record {
     gained = are.gained;
@@ -319,5 +332,6 @@ module _ (P : NamedProgram) (row : List Ref) where
     free = are.free;
     usable = are.usable;
     early = early are.early;
+    noted = are.noted;
     lacks = λ later grows sound settled free s is. let both = are.lacks later grows sound settled free s is in (both.0, whole s both.1);
   }

@@ -19,7 +19,8 @@ use Rattle.and_clause_index.specs.Served.{NodeHas, AreServed}
 use Rattle.and_determinacy.specs.Searches.{NodeKeeps, IsNextOf, IsCount}
 use Rattle.and_determinacy.specs.declared.judging.Found.{Found}
 use Rattle.and_determinacy.specs.declared.judging.Judged.TheVariants.{Several}
-use Rattle.and_determinacy.specs.Watching.{IsWatched, IsListed, IsFollowed, StaysWhile, TwoStayWhile, HaveWhatWasSet, HadBefore, AreListed, AreAllListed, told_if}
+use Rattle.and_determinacy.specs.Watching.{IsWatched, IsListed, IsFollowed, StaysWhile, TwoStayWhile, HaveWhatWasSet, HadBefore}
+use Rattle.and_determinacy.specs.Watching.{AreListed, AreAllListed, told_if}
 use Rattle.and_determinacy.proofs.Searching.{none_fewer, two_rise}
 
 -- What holds of the cells if they are told holds where they are.

@@ -1,4 +1,5 @@
 pub mod Candidates
+pub mod Parting
 pub mod Searches
 pub mod Seeing
 pub mod Trials

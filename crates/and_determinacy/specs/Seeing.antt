@@ -22,13 +22,13 @@ AgreeUpTo n s z = ((cell : ℕ) → s [] cell ≡ z [] cell) × ((k : ℕ) → k
 
 -- The term speaks of cells and of so many variables of the frame outside: what gives these the same makes of it the
 -- same.
-pub record IsEarly (n : ℕ) (t : Term) : Type 0 where
+pub record SpeaksOf (n : ℕ) (t : Term) : Type 0 where
   pub same : (s z : Substitution) → AgreeUpTo n s z → apply s t ≡ apply z t
 
 -- So does each side of these equations.
-abbrev pub AreEarly : ℕ → List Equation → Type 0
-AreEarly n [] = Unit {0}
-AreEarly n (e ∷ es) = IsEarly n e.0 × IsEarly n e.1 × AreEarly n es
+abbrev pub SpeakOf : ℕ → List Equation → Type 0
+SpeakOf n [] = Unit {0}
+SpeakOf n (e ∷ es) = SpeaksOf n e.0 × SpeaksOf n e.1 × SpeakOf n es
 
 -- the cell becomes the term, and nothing else changes
 abbrev pub only : ℕ → Term → Substitution
@@ -83,7 +83,7 @@ pub record GoesOn (P : NamedProgram) (later : List Ref) (held : List ℕ) (given
     (es : List Equation) : Type 0 where
   pub to : Substitution
   pub is : IsGiven P later held given to
-  pub keeps : (ds : List Equation) → AreEarly n ds → Solves s ds → Solves to ds
+  pub keeps : (ds : List Equation) → SpeakOf n ds → Solves s ds → Solves to ds
   pub solves : Solves to es
 
 -- It is so in whatever settled row this one grows to while these cells are free.
@@ -103,6 +103,14 @@ IsPart P words (Half bits) = ⊥
 abbrev pub IsUsable : NamedProgram → (words : ℕ) → Ref → Type 0
 IsUsable P words r = (r ≡ Free) ⊎ IsPart P words r
 
+-- In what makes a call and a head one, the variable is what was noted of it, if that is a reference.
+abbrev pub MayBeNoted : NamedProgram → Substitution → (k : ℕ) → Ref → Type 0
+MayBeNoted P s k r = (r ≡ Free) ⊎ (apply s (ref_term P r) ≡ s outside k)
+
+-- So are the first variables of the head.
+abbrev pub AreNoted : NamedProgram → (given : List Ref) → Substitution → Type 0
+AreNoted P given s = (k : ℕ) → k < length given → MayBeNoted P s k (get_or given k Free)
+
 -- Where these were held and noted before and those after it, the equations are met by what was given in between.
 pub record Meets (P : NamedProgram) (row : List Ref) (held has : List ℕ) (given gives : List Ref)
     (es : List Equation) : Type 0 where
@@ -111,7 +119,8 @@ pub record Meets (P : NamedProgram) (row : List Ref) (held has : List ℕ) (give
   pub taller : length given ≤ length gives
   pub free : AreFree row held → AreFree row has
   pub usable : All (IsUsable P (length row)) given → All (IsUsable P (length row)) gives
-  pub early : AreEarly (length gives) es
+  pub early : SpeakOf (length gives) es
+  pub noted : (s : Substitution) → Solves s (equations_of P row) → Solves s es → AreNoted P given s → AreNoted P gives s
   pub goes : WhileFree P row has (λ later. (s : Substitution) → IsGiven P later held given s
       → GoesOn P later has gives (length given) s es)
 
@@ -123,7 +132,8 @@ pub record AreLacking (P : NamedProgram) (row : List Ref) (held has : List ℕ) 
   pub taller : length given ≤ length gives
   pub free : AreFree row held → AreFree row has
   pub usable : All (IsUsable P (length row)) given → All (IsUsable P (length row)) gives
-  pub early : (h : ℕ) → Contains heads h → IsEarly (length gives) (framed outside (node_term P.skeleton.nodes h))
+  pub early : (h : ℕ) → Contains heads h → SpeaksOf (length gives) (framed outside (node_term P.skeleton.nodes h))
+  pub noted : (s : Substitution) → AreNoted P given s → AreNoted P gives s
   pub lacks : WhileFree P row has (λ later. (s : Substitution) → IsGiven P later held given s
       → IsGiven P later has gives s
       × ((h : ℕ) → Contains heads h → LacksEach held (apply s (framed outside (node_term P.skeleton.nodes h)))))
@@ -136,7 +146,8 @@ pub record IsLacking (P : NamedProgram) (row : List Ref) (held has : List ℕ) (
   pub taller : length given ≤ length gives
   pub free : AreFree row held → AreFree row has
   pub usable : All (IsUsable P (length row)) given → All (IsUsable P (length row)) gives
-  pub early : IsEarly (length gives) x
+  pub early : SpeaksOf (length gives) x
+  pub noted : (s : Substitution) → AreNoted P given s → AreNoted P gives s
   pub lacks : WhileFree P row has (λ later. (s : Substitution) → IsGiven P later held given s
       → IsGiven P later has gives s × LacksEach held (apply s x))
 

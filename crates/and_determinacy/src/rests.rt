@@ -17,7 +17,7 @@ ghost use Rattle.and_program.specs.Loaded.{arguments_at, skeleton_of};
 ghost use Rattle.and_cells.specs.Ranges.{IsInRange};
 ghost use Rattle.and_cells.specs.Seen.{word_at};
 
-use crate::seeing::is_seen;
+use crate::seeing::{Sight, is_fit, is_seen};
 use crate::watching::{MOST_PLACES, follow_cell, gather, list_cell};
 use and_cells::{Naming, PlainCells};
 use and_clause_index::count_in;
@@ -29,16 +29,16 @@ use std::marker::Model;
 /// So many looks at a clause are passed over at most, after others that told nothing.
 const MOST_PASSED: u32 = 7;
 
-/// A clause of which a look told nothing, and how many next looks at it are passed over: more each time, since clauses
-/// that are not seen to fit mostly are not the next time either, and then a look is lost.
+/// A clause of which a look told nothing, and how many next looks at it are passed over: more each time, since a clause
+/// of which nothing is seen is mostly such the next time too, and then a look is lost.
 #[derive(Clone, Copy, PartialEq, Eq, Debug)]
-struct Doubt {
+struct PassedLooks {
     clause: ClauseNo,
     most: u32,
     left: u32,
 }
 
-impl Doubt {
+impl PassedLooks {
     /// Whether a look at the clause is passed over, of which then one fewer is.
     #[inline(always)]
     fn passes_over(&mut self, clause: ClauseNo) -> bool {
@@ -47,6 +47,16 @@ impl Doubt {
         }
         self.left -= 1;
         true
+    }
+
+    /// What another look at the clause told is heeded.
+    #[inline(always)]
+    fn heeds(&mut self, clause: ClauseNo, sight: Sight) {
+        match sight {
+            Sight::Fits => {}
+            Sight::Apart => {}
+            Sight::Untold => self.grows(clause),
+        }
     }
 
     /// Another look at the clause told nothing.
@@ -69,7 +79,7 @@ pub(crate) struct Rests {
     are_told: bool,
     visits: Vec<Ref>,
     held: Vec<u32>,
-    doubt: Doubt,
+    passed: PassedLooks,
 }
 
 // By hand, so that it is proved once, here.
@@ -80,7 +90,7 @@ impl Drop for Rests {
             are_told: _,
             visits: _,
             held: _,
-            doubt: _,
+            passed: _,
         } = self;
     }
 }
@@ -104,7 +114,7 @@ impl Rests {
             are_told: false,
             visits: Vec::new(alloc),
             held: Vec::new(alloc),
-            doubt: Doubt {
+            passed: PassedLooks {
                 clause: ClauseNo(0),
                 most: 0,
                 left: 0,
@@ -159,8 +169,8 @@ impl Rests {
         list_free(loaded, cells, node, base, &mut self.cells)
     }
 
-    /// Whether a clause is seen to be a candidate of the call whose node is given, in the frame at the base, without a
-    /// trial: `false` says nothing. If it is, the cells are added on which this rests. An error is want of memory.
+    /// What a look tells of a clause and the call whose node is given, in the frame at the base, without a trial. If
+    /// the clause fits, the cells are added on which this rests. An error is want of memory.
     #[inline(always)]
     pub(crate) fn add_seen<N: Naming>(
         &mut self,
@@ -169,20 +179,23 @@ impl Rests {
         node: NodeNo,
         base: u32,
         clause: ClauseNo,
-    ) -> Result<bool, AllocError>
+    ) -> Result<Sight, AllocError>
         requires program { N.program ≡ named loaded.now }
         requires settled { IsSettled N.program cells.now }
         requires node { CanBeRead N.program cells.now base node.0 }
         requires of { Of N.program.program (node_term N.program.skeleton.nodes node.0) clause.0 }
-        ensures fits { result ≡ Ok true → Candidate N.program.program (equations_of N.program cells.now) outside
+        ensures fits { result ≡ Ok Sight.Fits → Candidate N.program.program (equations_of N.program cells.now) outside
             (placed base (node_term N.program.skeleton.nodes node.0)) clause.0 }
-        ensures before { result ≡ Ok true → IfSome self.new (HadBefore self.old) }
-        ensures stays { result ≡ Ok true → IfSome self.new (λ has.
+        ensures apart { result ≡ Ok Sight.Apart → Candidate N.program.program (equations_of N.program cells.now) outside
+            (placed base (node_term N.program.skeleton.nodes node.0)) clause.0 → ⊥ }
+        ensures before { result ≡ Ok Sight.Fits → IfSome self.new (HadBefore self.old) }
+        ensures stays { result ≡ Ok Sight.Fits → IfSome self.new (λ has.
             StaysWhile N.program cells.now base (node_term N.program.skeleton.nodes node.0) has clause.0) }
-        ensures same { result ≡ Ok false → self.new ≡ self.old }
+        ensures same { result ≡ Ok Sight.Untold → self.new ≡ self.old }
+        ensures same_apart { result ≡ Ok Sight.Apart → self.new ≡ self.old }
     {
-        if self.doubt.passes_over(clause) {
-            return Ok(false);
+        if self.passed.passes_over(clause) {
+            return Ok(Sight::Untold);
         }
         self.held.clear();
         self.visits.clear();
@@ -195,15 +208,15 @@ impl Rests {
             &mut self.held,
             &mut self.visits,
         )?;
-        if !seen {
-            self.doubt.grows(clause);
-            return Ok(false);
+        if !is_fit(seen) {
+            self.passed.heeds(clause, seen);
+            return Ok(seen);
         }
         if !self.are_told {
-            return Ok(true);
+            return Ok(Sight::Fits);
         }
         list_all(&self.held, &mut self.cells)?;
-        Ok(true)
+        Ok(Sight::Fits)
     }
 
     /// Adds the cells on which a clause rests that was tried and fitted: of those below the floor, where

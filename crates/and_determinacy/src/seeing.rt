@@ -1,9 +1,11 @@
-//! Clauses that are seen to fit a call, without a trial.
+//! Clauses that are seen to fit a call, or to be apart from it, without a trial.
 //!
 //! Arguments of the call and of the head are gone over together, and what would be given to free cells of the call and
-//! to variables of the head is noted; nothing is set. Where more than a look is needed, it is given up.
+//! to variables of the head is noted; nothing is set. Where a structure of the call begins differently than what the
+//! head asks for, or than what was noted of a variable that is met again, the clause is apart. Where more than a look
+//! is needed, it is given up.
 
-ghost use Rattle.std.specs.Prelude.{◌≡◌, ◌≢◌, ◌<◌, ◌≤◌, ◌^◌, ◌++◌, ◌∷◌, ◌⊎◌, ℕ, List, [], Ok, All, Contains, true, false, length, map, take};
+ghost use Rattle.std.specs.Prelude.{◌≡◌, ◌≢◌, ◌<◌, ◌≤◌, ◌^◌, ◌++◌, ◌∷◌, ◌⊎◌, ℕ, List, [], Ok, All, Contains, true, false, length, map, take, ◌↔◌};
 ghost use Rattle.and_model.specs.Candidates.{Candidate};
 ghost use Rattle.and_model.specs.Programs.{Of};
 ghost use Rattle.and_model.specs.Terms.{framed, variable};
@@ -20,9 +22,11 @@ ghost use Rattle.and_cells.specs.Seen.{LeadsTo};
 ghost use Rattle.and_branch_laws.specs.Judging.{outside};
 ghost use Rattle.and_branch_laws.specs.Variables.{placed};
 ghost use Rattle.and_guards.specs.Guards.{CanBeRead};
+ghost use Rattle.and_determinacy.specs.Parting.{AreApart, ArePartedBy, IsStructureAt};
 ghost use Rattle.and_determinacy.specs.Seeing.{Meets, AreLacking, HoldNone, IsPart, IsUsable, argument_pairs, ref_term};
 ghost use Rattle.and_determinacy.specs.Watching.{StaysWhile};
 
+use crate::parting::structures_are_apart;
 use crate::rests::is_another;
 use and_cells::{Naming, PlainCells};
 use and_clause_index::count_in;
@@ -34,8 +38,49 @@ use std::alloc::AllocError;
 /// than the trial that it is to save.
 const MOST_LINKS: u32 = 16;
 
-/// Whether a clause is seen to be a candidate of the call whose node is given, in the frame at the base: `false` says
-/// nothing. On a list that was empty are then the cells on which this rests. An error is want of memory.
+/// What a look tells of a clause and a call.
+#[derive(Clone, Copy)]
+pub(crate) enum Sight {
+    /// The clause is a candidate.
+    Fits,
+    /// It is none.
+    Apart,
+    /// Nothing.
+    Untold,
+}
+
+/// Whether a look tells that a clause fits.
+#[inline(always)]
+pub(crate) fn is_fit(sight: Sight) -> bool
+    ensures { (result ≡ true) ↔ (sight ≡ Sight.Fits) }
+{
+    match sight {
+        Sight::Fits => true,
+        Sight::Apart => false,
+        Sight::Untold => false,
+    }
+}
+
+/// What is told where a clause fits if this is so, and where else nothing is known.
+#[inline(always)]
+fn fits_if(so: bool) -> Sight
+    ensures fits { result ≡ Sight.Fits → so ≡ true }
+    ensures apart { result ≢ Sight.Apart }
+{
+    if so { Sight::Fits } else { Sight::Untold }
+}
+
+/// What is told where a clause is apart if this is so, and where else nothing is known.
+#[inline(always)]
+fn apart_if(so: bool) -> Sight
+    ensures fits { result ≢ Sight.Fits }
+    ensures apart { result ≡ Sight.Apart → so ≡ true }
+{
+    if so { Sight::Apart } else { Sight::Untold }
+}
+
+/// What a look tells of a clause and the call whose node is given, in the frame at the base. If the clause fits, the
+/// cells on which this rests are then on a list that was empty. An error is want of memory.
 #[inline(always)]
 pub(crate) fn is_seen<N: Naming>(
     loaded: &Loaded,
@@ -45,31 +90,33 @@ pub(crate) fn is_seen<N: Naming>(
     clause: ClauseNo,
     held: &mut Vec<u32>,
     given: &mut Vec<Ref>,
-) -> Result<bool, AllocError>
+) -> Result<Sight, AllocError>
     requires program { N.program ≡ named loaded.now }
     requires settled { IsSettled N.program cells.now }
     requires node { CanBeRead N.program cells.now base node.0 }
     requires of { Of N.program.program (node_term N.program.skeleton.nodes node.0) clause.0 }
     requires nothing_held { held.old.items ≡ [] }
     requires nothing_given { given.old.items ≡ [] }
-    ensures fits { result ≡ Ok true → Candidate N.program.program (equations_of N.program cells.now) outside
+    ensures fits { result ≡ Ok Sight.Fits → Candidate N.program.program (equations_of N.program cells.now) outside
         (placed base (node_term N.program.skeleton.nodes node.0)) clause.0 }
-    ensures stays { result ≡ Ok true → StaysWhile N.program cells.now base
+    ensures stays { result ≡ Ok Sight.Fits → StaysWhile N.program cells.now base
         (node_term N.program.skeleton.nodes node.0) held.new.items clause.0 }
+    ensures apart { result ≡ Ok Sight.Apart → Candidate N.program.program (equations_of N.program cells.now) outside
+        (placed base (node_term N.program.skeleton.nodes node.0)) clause.0 → ⊥ }
 {
     loaded.skeleton_is_of_the_program();
     let _words = cells.len();
     let guard = loaded.guard(clause);
     if guard > 0 {
-        return Ok(false);
+        return Ok(Sight::Untold);
     }
     let head = loaded.head(clause);
     arguments_meet(loaded, cells, node, base, head, held, given)
 }
 
-/// Whether the arguments of a call, read in the frame at the base, are seen to be made one with those of a head. What
-/// the variables of the head are given is noted, and the free cells of the call on which this rests are put on a list.
-/// An error is want of memory.
+/// Whether the arguments of a call, read in the frame at the base, are seen to be made one with those of a head, or to
+/// be apart from them. What the variables of the head are given is noted, and the free cells of the call on which this
+/// rests are put on a list. An error is want of memory.
 fn arguments_meet<N: Naming>(
     loaded: &Loaded,
     cells: &PlainCells<N>,
@@ -78,7 +125,7 @@ fn arguments_meet<N: Naming>(
     head: NodeNo,
     held: &mut Vec<u32>,
     given: &mut Vec<Ref>,
-) -> Result<bool, AllocError>
+) -> Result<Sight, AllocError>
     requires program { N.program ≡ named loaded.now }
     requires falls { AllFall 0 N.program.skeleton.nodes }
     requires in_range { IsInRange N.program (length cells.now) (Ref.Node node base) }
@@ -86,7 +133,11 @@ fn arguments_meet<N: Naming>(
     requires as_many { length (arguments_at (skeleton_of loaded.now) node.0)
         ≡ length (arguments_at (skeleton_of loaded.now) head.0) }
     requires usable { All (IsUsable N.program (length cells.now)) given.old.items }
-    ensures { result ≡ Ok true → Meets N.program cells.now held.old.items held.new.items given.old.items given.new.items
+    ensures meets { result ≡ Ok Sight.Fits
+        → Meets N.program cells.now held.old.items held.new.items given.old.items given.new.items
+        (argument_pairs N.program base (arguments_at N.program.skeleton node.0)
+        (arguments_at N.program.skeleton head.0)) }
+    ensures apart { result ≡ Ok Sight.Apart → ArePartedBy N.program cells.now given.old.items
         (argument_pairs N.program base (arguments_at N.program.skeleton node.0)
         (arguments_at N.program.skeleton head.0)) }
 {
@@ -94,11 +145,11 @@ fn arguments_meet<N: Naming>(
         let part = loaded.resolve(loaded.argument(node, place), base);
         let asked = loaded.argument(head, place);
         let met = argument_meets(loaded, cells, part, asked, held, given)?;
-        if !met {
-            return Ok(false);
+        if !is_fit(met) {
+            return Ok(met);
         }
     }
-    Ok(true)
+    Ok(Sight::Fits)
 }
 
 /// Whether one of them is.
@@ -110,13 +161,16 @@ fn argument_meets<N: Naming>(
     asked: NodeNo,
     held: &mut Vec<u32>,
     given: &mut Vec<Ref>,
-) -> Result<bool, AllocError>
+) -> Result<Sight, AllocError>
     requires program { N.program ≡ named loaded.now }
     requires falls { AllFall 0 N.program.skeleton.nodes }
     requires in_range { IsPart N.program (length cells.now) part }
     requires there { asked.0 < length (skeleton_of loaded.now).nodes }
     requires usable { All (IsUsable N.program (length cells.now)) given.old.items }
-    ensures { result ≡ Ok true → Meets N.program cells.now held.old.items held.new.items given.old.items given.new.items
+    ensures meets { result ≡ Ok Sight.Fits
+        → Meets N.program cells.now held.old.items held.new.items given.old.items given.new.items
+        ((ref_term N.program part, framed outside (node_term N.program.skeleton.nodes asked.0)) ∷ []) }
+    ensures apart { result ≡ Ok Sight.Apart → ArePartedBy N.program cells.now given.old.items
         ((ref_term N.program part, framed outside (node_term N.program.skeleton.nodes asked.0)) ∷ []) }
 {
     match loaded.kind(asked) {
@@ -137,22 +191,25 @@ fn term_meets<N: Naming>(
     asked: NodeNo,
     held: &mut Vec<u32>,
     given: &mut Vec<Ref>,
-) -> Result<bool, AllocError>
+) -> Result<Sight, AllocError>
     requires program { N.program ≡ named loaded.now }
     requires falls { AllFall 0 N.program.skeleton.nodes }
     requires in_range { IsPart N.program (length cells.now) part }
     requires there { asked.0 < length (skeleton_of loaded.now).nodes }
     requires solid { (k : ℕ) → shape_at N.program.skeleton asked.0 ≢ Skeletons.variable k }
     requires usable { All (IsUsable N.program (length cells.now)) given.old.items }
-    ensures { result ≡ Ok true → Meets N.program cells.now held.old.items held.new.items given.old.items given.new.items
+    ensures meets { result ≡ Ok Sight.Fits
+        → Meets N.program cells.now held.old.items held.new.items given.old.items given.new.items
+        ((ref_term N.program part, framed outside (node_term N.program.skeleton.nodes asked.0)) ∷ []) }
+    ensures apart { result ≡ Ok Sight.Apart → ArePartedBy N.program cells.now given.old.items
         ((ref_term N.program part, framed outside (node_term N.program.skeleton.nodes asked.0)) ∷ []) }
 {
     match end_of(cells, part) {
         Ref::Cell(cell) => fill(loaded, cells, cell, asked, held, given),
         Ref::Node { node, base } => structure_meets(loaded, cells, node, base, asked, held, given),
-        Ref::Number(_) => Ok(false),
-        Ref::Free => Ok(false),
-        Ref::Half(_) => Ok(false),
+        Ref::Number(_) => Ok(Sight::Untold),
+        Ref::Free => Ok(Sight::Untold),
+        Ref::Half(_) => Ok(Sight::Untold),
     }
 }
 
@@ -166,20 +223,23 @@ fn structure_meets<N: Naming>(
     asked: NodeNo,
     held: &mut Vec<u32>,
     given: &mut Vec<Ref>,
-) -> Result<bool, AllocError>
+) -> Result<Sight, AllocError>
     requires program { N.program ≡ named loaded.now }
     requires falls { AllFall 0 N.program.skeleton.nodes }
     requires in_range { IsInRange N.program (length cells.now) (Ref.Node node base) }
     requires there { asked.0 < length (skeleton_of loaded.now).nodes }
     requires solid { (k : ℕ) → shape_at N.program.skeleton asked.0 ≢ Skeletons.variable k }
     requires usable { All (IsUsable N.program (length cells.now)) given.old.items }
-    ensures { result ≡ Ok true → Meets N.program cells.now held.old.items held.new.items given.old.items given.new.items
+    ensures meets { result ≡ Ok Sight.Fits
+        → Meets N.program cells.now held.old.items held.new.items given.old.items given.new.items
+        ((ref_term N.program (Ref.Node node base), framed outside (node_term N.program.skeleton.nodes asked.0)) ∷ []) }
+    ensures apart { result ≡ Ok Sight.Apart → ArePartedBy N.program cells.now given.old.items
         ((ref_term N.program (Ref.Node node base), framed outside (node_term N.program.skeleton.nodes asked.0)) ∷ []) }
 {
     let kind = loaded.kind(node);
     let wanted = loaded.kind(asked);
     if kind != wanted {
-        return Ok(false);
+        return Ok(Sight::Apart);
     }
     parts_meet(loaded, cells, node, base, asked, held, given)
 }
@@ -195,7 +255,7 @@ fn parts_meet<N: Naming>(
     asked: NodeNo,
     held: &mut Vec<u32>,
     given: &mut Vec<Ref>,
-) -> Result<bool, AllocError>
+) -> Result<Sight, AllocError>
     requires program { N.program ≡ named loaded.now }
     requires falls { AllFall 0 N.program.skeleton.nodes }
     requires in_range { IsInRange N.program (length cells.now) (Ref.Node node base) }
@@ -203,7 +263,11 @@ fn parts_meet<N: Naming>(
     requires as_many { length (arguments_at (skeleton_of loaded.now) node.0)
         ≡ length (arguments_at (skeleton_of loaded.now) asked.0) }
     requires usable { All (IsUsable N.program (length cells.now)) given.old.items }
-    ensures { result ≡ Ok true → Meets N.program cells.now held.old.items held.new.items given.old.items given.new.items
+    ensures meets { result ≡ Ok Sight.Fits
+        → Meets N.program cells.now held.old.items held.new.items given.old.items given.new.items
+        (argument_pairs N.program base (arguments_at N.program.skeleton node.0)
+        (arguments_at N.program.skeleton asked.0)) }
+    ensures apart { result ≡ Ok Sight.Apart → ArePartedBy N.program cells.now given.old.items
         (argument_pairs N.program base (arguments_at N.program.skeleton node.0)
         (arguments_at N.program.skeleton asked.0)) }
 {
@@ -211,11 +275,11 @@ fn parts_meet<N: Naming>(
         let part = loaded.resolve(loaded.argument(node, place), base);
         let wanted = loaded.argument(asked, place);
         let met = part_meets(loaded, cells, part, wanted, held, given)?;
-        if !met {
-            return Ok(false);
+        if !is_fit(met) {
+            return Ok(met);
         }
     }
-    Ok(true)
+    Ok(Sight::Fits)
 }
 
 /// Whether one of them is.
@@ -227,13 +291,16 @@ fn part_meets<N: Naming>(
     asked: NodeNo,
     held: &mut Vec<u32>,
     given: &mut Vec<Ref>,
-) -> Result<bool, AllocError>
+) -> Result<Sight, AllocError>
     requires program { N.program ≡ named loaded.now }
     requires falls { AllFall 0 N.program.skeleton.nodes }
     requires in_range { IsPart N.program (length cells.now) part }
     requires there { asked.0 < length (skeleton_of loaded.now).nodes }
     requires usable { All (IsUsable N.program (length cells.now)) given.old.items }
-    ensures { result ≡ Ok true → Meets N.program cells.now held.old.items held.new.items given.old.items given.new.items
+    ensures meets { result ≡ Ok Sight.Fits
+        → Meets N.program cells.now held.old.items held.new.items given.old.items given.new.items
+        ((ref_term N.program part, framed outside (node_term N.program.skeleton.nodes asked.0)) ∷ []) }
+    ensures apart { result ≡ Ok Sight.Apart → ArePartedBy N.program cells.now given.old.items
         ((ref_term N.program part, framed outside (node_term N.program.skeleton.nodes asked.0)) ∷ []) }
 {
     match loaded.kind(asked) {
@@ -255,41 +322,46 @@ fn constant_meets<N: Naming>(
     asked: NodeNo,
     held: &mut Vec<u32>,
     given: &mut Vec<Ref>,
-) -> Result<bool, AllocError>
+) -> Result<Sight, AllocError>
     requires program { N.program ≡ named loaded.now }
     requires falls { AllFall 0 N.program.skeleton.nodes }
     requires in_range { IsPart N.program (length cells.now) part }
     requires there { asked.0 < length (skeleton_of loaded.now).nodes }
     requires solid { (k : ℕ) → shape_at N.program.skeleton asked.0 ≢ Skeletons.variable k }
     requires usable { All (IsUsable N.program (length cells.now)) given.old.items }
-    ensures { result ≡ Ok true → Meets N.program cells.now held.old.items held.new.items given.old.items given.new.items
+    ensures meets { result ≡ Ok Sight.Fits
+        → Meets N.program cells.now held.old.items held.new.items given.old.items given.new.items
+        ((ref_term N.program part, framed outside (node_term N.program.skeleton.nodes asked.0)) ∷ []) }
+    ensures apart { result ≡ Ok Sight.Apart → ArePartedBy N.program cells.now given.old.items
         ((ref_term N.program part, framed outside (node_term N.program.skeleton.nodes asked.0)) ∷ []) }
 {
     match end_of(cells, part) {
         Ref::Cell(cell) => fill(loaded, cells, cell, asked, held, given),
-        Ref::Node { node, base: _ } => Ok(are_one_constant(loaded, node, asked)),
-        Ref::Number(_) => Ok(false),
-        Ref::Free => Ok(false),
-        Ref::Half(_) => Ok(false),
+        Ref::Node { node, base: _ } => Ok(constants_meet(loaded, node, asked)),
+        Ref::Number(_) => Ok(Sight::Untold),
+        Ref::Free => Ok(Sight::Untold),
+        Ref::Half(_) => Ok(Sight::Untold),
     }
 }
 
-/// Whether two nodes have no arguments and are of one kind.
+/// What is seen of a constant of the head and a structure of the call.
 #[inline(always)]
-fn are_one_constant(loaded: &Loaded, node: NodeNo, other: NodeNo) -> bool
+fn constants_meet(loaded: &Loaded, node: NodeNo, other: NodeNo) -> Sight
     requires node { node.0 < length (skeleton_of loaded.now).nodes }
     requires other { other.0 < length (skeleton_of loaded.now).nodes }
-    ensures kind { result ≡ true
+    ensures kind { result ≡ Sight.Fits
         → shown (shape_at (skeleton_of loaded.now) node.0) ≡ shown (shape_at (skeleton_of loaded.now) other.0) }
-    ensures none { result ≡ true → arguments_at (skeleton_of loaded.now) node.0 ≡ [] }
-    ensures others { result ≡ true → arguments_at (skeleton_of loaded.now) other.0 ≡ [] }
+    ensures none { result ≡ Sight.Fits → arguments_at (skeleton_of loaded.now) node.0 ≡ [] }
+    ensures others { result ≡ Sight.Fits → arguments_at (skeleton_of loaded.now) other.0 ≡ [] }
+    ensures apart { result ≡ Sight.Apart
+        → shown (shape_at (skeleton_of loaded.now) node.0) ≢ shown (shape_at (skeleton_of loaded.now) other.0) }
 {
     let kind = loaded.kind(node);
     let wanted = loaded.kind(other);
     if kind != wanted {
-        return false;
+        return Sight::Apart;
     }
-    count_in(wanted) == 0
+    fits_if(count_in(wanted) == 0)
 }
 
 /// Notes that a variable of the head is given a part of the call, where it is seen for the first time; else whether
@@ -303,26 +375,29 @@ fn take<N: Naming>(
     number: u8,
     held: &mut Vec<u32>,
     given: &mut Vec<Ref>,
-) -> Result<bool, AllocError>
+) -> Result<Sight, AllocError>
     requires program { N.program ≡ named loaded.now }
     requires falls { AllFall 0 N.program.skeleton.nodes }
     requires in_range { IsPart N.program (length cells.now) part }
     requires asked { node_term N.program.skeleton.nodes asked.0 ≡ variable [] number }
     requires usable { All (IsUsable N.program (length cells.now)) given.old.items }
-    ensures { result ≡ Ok true → Meets N.program cells.now held.old.items held.new.items given.old.items given.new.items
+    ensures meets { result ≡ Ok Sight.Fits
+        → Meets N.program cells.now held.old.items held.new.items given.old.items given.new.items
+        ((ref_term N.program part, framed outside (node_term N.program.skeleton.nodes asked.0)) ∷ []) }
+    ensures apart { result ≡ Ok Sight.Apart → ArePartedBy N.program cells.now given.old.items
         ((ref_term N.program part, framed outside (node_term N.program.skeleton.nodes asked.0)) ∷ []) }
 {
     let place = number as usize;
     if place == given.len() {
         given.push(part)?;
-        return Ok(true);
+        return Ok(Sight::Fits);
     }
     if place > given.len() {
-        return Ok(false);
+        return Ok(Sight::Untold);
     }
     let noted = given[place];
     if is_itself(noted) {
-        return Ok(false);
+        return Ok(Sight::Untold);
     }
     join(loaded, cells, part, noted, held)
 }
@@ -337,28 +412,64 @@ fn is_itself(noted: Ref) -> bool
 }
 
 /// Whether two references are seen to be made one: one of them leads to a free cell, which is none of those on the list
-/// and is given the other.
+/// and is given the other. Two structures may be seen to be apart.
 fn join<N: Naming>(
     loaded: &Loaded,
     cells: &PlainCells<N>,
     part: Ref,
     other: Ref,
     held: &mut Vec<u32>,
-) -> Result<bool, AllocError>
+) -> Result<Sight, AllocError>
     requires program { N.program ≡ named loaded.now }
     requires falls { AllFall 0 N.program.skeleton.nodes }
     requires part { IsPart N.program (length cells.now) part }
     requires other { IsPart N.program (length cells.now) other }
-    ensures { result ≡ Ok true → (given : List Ref)
+    ensures meets { result ≡ Ok Sight.Fits → (given : List Ref)
         → Meets N.program cells.now held.old.items held.new.items given given
         ((ref_term N.program part, ref_term N.program other) ∷ []) }
+    ensures apart { result ≡ Ok Sight.Apart → AreApart N.program cells.now (ref_term N.program part)
+        (ref_term N.program other) }
 {
     match end_of(cells, part) {
         Ref::Cell(cell) => give(loaded, cells, cell, other, held),
-        Ref::Node { node: _, base: _ } => give_end(loaded, cells, other, part, held),
+        Ref::Node { node, base } => join_structure(loaded, cells, node, base, part, other, held),
         Ref::Number(_) => give_end(loaded, cells, other, part, held),
-        Ref::Free => Ok(false),
-        Ref::Half(_) => Ok(false),
+        Ref::Free => Ok(Sight::Untold),
+        Ref::Half(_) => Ok(Sight::Untold),
+    }
+}
+
+/// The same where the first leads to this structure.
+#[inline(always)]
+fn join_structure<N: Naming>(
+    loaded: &Loaded,
+    cells: &PlainCells<N>,
+    node: NodeNo,
+    base: u32,
+    part: Ref,
+    other: Ref,
+    held: &mut Vec<u32>,
+) -> Result<Sight, AllocError>
+    requires program { N.program ≡ named loaded.now }
+    requires falls { AllFall 0 N.program.skeleton.nodes }
+    requires part { IsPart N.program (length cells.now) part }
+    requires leads { IsStructureAt N.program cells.now part node base }
+    requires other { IsPart N.program (length cells.now) other }
+    ensures meets { result ≡ Ok Sight.Fits → (given : List Ref)
+        → Meets N.program cells.now held.old.items held.new.items given given
+        ((ref_term N.program part, ref_term N.program other) ∷ []) }
+    ensures apart { result ≡ Ok Sight.Apart → AreApart N.program cells.now (ref_term N.program part)
+        (ref_term N.program other) }
+{
+    match end_of(cells, other) {
+        Ref::Cell(cell) => give(loaded, cells, cell, part, held),
+        Ref::Node {
+            node: second,
+            base: second_base,
+        } => Ok(apart_if(structures_are_apart(loaded, cells, node, base, second, second_base))),
+        Ref::Number(_) => Ok(Sight::Untold),
+        Ref::Free => Ok(Sight::Untold),
+        Ref::Half(_) => Ok(Sight::Untold),
     }
 }
 
@@ -370,21 +481,22 @@ fn give_end<N: Naming>(
     part: Ref,
     other: Ref,
     held: &mut Vec<u32>,
-) -> Result<bool, AllocError>
+) -> Result<Sight, AllocError>
     requires program { N.program ≡ named loaded.now }
     requires falls { AllFall 0 N.program.skeleton.nodes }
     requires part { IsPart N.program (length cells.now) part }
     requires other { IsPart N.program (length cells.now) other }
-    ensures { result ≡ Ok true → (given : List Ref)
+    ensures meets { result ≡ Ok Sight.Fits → (given : List Ref)
         → Meets N.program cells.now held.old.items held.new.items given given
         ((ref_term N.program part, ref_term N.program other) ∷ []) }
+    ensures apart { result ≢ Ok Sight.Apart }
 {
     match end_of(cells, part) {
         Ref::Cell(cell) => give(loaded, cells, cell, other, held),
-        Ref::Node { node: _, base: _ } => Ok(false),
-        Ref::Number(_) => Ok(false),
-        Ref::Free => Ok(false),
-        Ref::Half(_) => Ok(false),
+        Ref::Node { node: _, base: _ } => Ok(Sight::Untold),
+        Ref::Number(_) => Ok(Sight::Untold),
+        Ref::Free => Ok(Sight::Untold),
+        Ref::Half(_) => Ok(Sight::Untold),
     }
 }
 
@@ -396,21 +508,23 @@ fn give<N: Naming>(
     cell: u32,
     other: Ref,
     held: &mut Vec<u32>,
-) -> Result<bool, AllocError>
+) -> Result<Sight, AllocError>
     requires program { N.program ≡ named loaded.now }
     requires falls { AllFall 0 N.program.skeleton.nodes }
     requires cell { cell < length cells.now }
     requires other { IsPart N.program (length cells.now) other }
-    ensures { result ≡ Ok true → (given : List Ref)
+    ensures meets { result ≡ Ok Sight.Fits → (given : List Ref)
         → Meets N.program cells.now held.old.items held.new.items given given
         ((cell_variable cell, ref_term N.program other) ∷ []) }
+    ensures apart { result ≢ Ok Sight.Apart }
 {
     let another = is_another(cells, cell, held);
     if !another {
-        return Ok(false);
+        return Ok(Sight::Untold);
     }
     held.push(cell)?;
-    holds_none(loaded, cells, other, held)
+    let none = holds_none(loaded, cells, other, held)?;
+    Ok(fits_if(none))
 }
 
 /// Whether the term of a reference is seen to hold none of the cells on the list. The free cells that it holds are then
@@ -527,22 +641,25 @@ fn fill<N: Naming>(
     asked: NodeNo,
     held: &mut Vec<u32>,
     given: &mut Vec<Ref>,
-) -> Result<bool, AllocError>
+) -> Result<Sight, AllocError>
     requires program { N.program ≡ named loaded.now }
     requires falls { AllFall 0 N.program.skeleton.nodes }
     requires in_range { cell < length cells.now }
     requires there { asked.0 < length (skeleton_of loaded.now).nodes }
     requires solid { (k : ℕ) → shape_at N.program.skeleton asked.0 ≢ Skeletons.variable k }
     requires usable { All (IsUsable N.program (length cells.now)) given.old.items }
-    ensures { result ≡ Ok true → Meets N.program cells.now held.old.items held.new.items given.old.items given.new.items
+    ensures meets { result ≡ Ok Sight.Fits
+        → Meets N.program cells.now held.old.items held.new.items given.old.items given.new.items
         ((cell_variable cell, framed outside (node_term N.program.skeleton.nodes asked.0)) ∷ []) }
+    ensures apart { result ≢ Ok Sight.Apart }
 {
     let another = is_another(cells, cell, held);
     if !another {
-        return Ok(false);
+        return Ok(Sight::Untold);
     }
     held.push(cell)?;
-    parts_lack(loaded, cells, asked, held, given)
+    let lack = parts_lack(loaded, cells, asked, held, given)?;
+    Ok(fits_if(lack))
 }
 
 /// Whether the arguments of a term of the head are seen to lack the cells on the list.
@@ -627,7 +744,7 @@ fn variable_lacks<N: Naming>(
 
 /// What a reference leads to: a node, a number, or a cell that is set to no reference.
 #[inline(always)]
-fn end_of<N: Naming>(cells: &PlainCells<N>, from: Ref) -> Ref
+pub(crate) fn end_of<N: Naming>(cells: &PlainCells<N>, from: Ref) -> Ref
     requires in_range { IsInRange N.program (length cells.now) from }
     ensures leads { LeadsTo (plain cells.now) from result }
     ensures in_range { IsInRangeOrHalf N.program (length cells.now) result }

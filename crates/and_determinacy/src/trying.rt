@@ -19,6 +19,7 @@ ghost use Rattle.and_determinacy.specs.Trials.{IsPrepared};
 ghost use Rattle.and_determinacy.specs.Watching.{HadBefore, StaysWhile};
 
 use crate::rests::Rests;
+use crate::seeing::Sight;
 use and_arith::WorkList;
 use and_cells::{Naming, PlainCells};
 use and_clause_index::{Determinacy, Look};
@@ -165,12 +166,14 @@ impl Trials {
         if self.look.is_doubled_apart(loaded, clause) {
             return Ok(false);
         }
-        let is_seen = self.rests.add_seen(loaded, cells, node, base, clause)?;
-        if is_seen {
-            return Ok(true);
+        let seen = self.rests.add_seen(loaded, cells, node, base, clause)?;
+        match seen {
+            Sight::Fits => Ok(true),
+            Sight::Apart => Ok(false),
+            Sight::Untold => self
+                .tools
+                .fits(loaded, cells, node, base, clause, &mut self.rests),
         }
-        self.tools
-            .fits(loaded, cells, node, base, clause, &mut self.rests)
     }
 }
 

@@ -7,10 +7,10 @@ use Rattle.and_determinacy.specs.Seeing.{ref_term}
 use Rattle.and_determinacy.proofs.SureParts.{led_meets}
 use Rattle.and_determinacy.proofs.seeing.give_end.Goals as goal
 
-pub returns-in-Cell : goal.returns-in-Cell
-returns-in-Cell g c = λ e given.
+pub returns-in-Cell-clause-meets : goal.returns-in-Cell-clause-meets
+returns-in-Cell-clause-meets g c = λ e given.
     let P = g.N.Naming.program in
     let row = c.args.cells.now in
     led_meets P row c.args.held.now.items c.give.new.held.items given given c.args.part (Cell c.in-Cell.cell) (ref_term P c.args.other)
     c.requires.part (subst (IsInRangeOrHalf P (length row)) c.in-Cell.is c.end_of.ensures.in_range)
-    (subst (LeadsTo (plain row) c.args.part) c.in-Cell.is c.end_of.ensures.leads) (c.give.ensures e given)
+    (subst (LeadsTo (plain row) c.args.part) c.in-Cell.is c.end_of.ensures.leads) (c.give.ensures.meets e given)

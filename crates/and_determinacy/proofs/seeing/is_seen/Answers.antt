@@ -12,6 +12,8 @@ use Rattle.and_clause_index.proofs.ClauseLists.{clause_there}
 use Rattle.and_guards.proofs.Nodes.{loaded_is}
 use Rattle.and_determinacy.specs.Seeing.{IsUsable, Meets, argument_pairs}
 use Rattle.and_determinacy.proofs.FreeCalls.{call_no_variable, unguarded_by}
+use Rattle.and_determinacy.specs.Parting.{ArePartedBy}
+use Rattle.and_determinacy.proofs.Parted.{no_candidate}
 use Rattle.and_determinacy.proofs.SureCalls.{alike, seen_stays, stays_now}
 use Rattle.and_determinacy.proofs.seeing.is_seen.Goals as goal
 
@@ -75,7 +77,7 @@ returns-clause-stays g c = λ e.
     let pairs = argument_pairs P base (arguments_at P.skeleton node) (arguments_at P.skeleton head) in
     seen_stays P facts.skeleton.0 row base node head clause has gives is c.requires.of none
     (subst (λ (rs : List Ref). Meets P row [] has rs gives pairs) c.requires.nothing_given
-    (subst (λ (cs : List ℕ). Meets P row cs has c.args.given.now.items gives pairs) c.requires.nothing_held (c.arguments_meet.ensures e)))
+    (subst (λ (cs : List ℕ). Meets P row cs has c.args.given.now.items gives pairs) c.requires.nothing_held (c.arguments_meet.ensures.meets e)))
 
 pub returns-clause-fits : goal.returns-clause-fits
 returns-clause-fits g c = λ e.
@@ -85,4 +87,20 @@ returns-clause-fits g c = λ e.
     let begins : AreFree row c.args.held.now.items =
     subst (AreFree row) (sym c.requires.nothing_held) (All-nil (λ (cell : ℕ). word_at row cell ≡ Free)) in
     stays_now P row c.args.base (node_term P.skeleton.nodes c.args.node.0) has c.args.clause.0 c.len-words.ensures.sound c.requires.settled
-    ((c.arguments_meet.ensures e).free begins) (returns-clause-stays g c e)
+    ((c.arguments_meet.ensures.meets e).free begins) (returns-clause-stays g c e)
+
+pub returns-clause-apart : goal.returns-clause-apart
+returns-clause-apart g c = λ e.
+    let P = g.N.Naming.program in
+    let row = c.args.cells.now in
+    let base = c.args.base in
+    let node = c.args.node.0 in
+    let clause = c.args.clause.0 in
+    let head = c.head-head.result.0 in
+    let facts = loaded_is P c.args.loaded.now c.requires.program c.skeleton_is_of_the_program.ensures.skeleton
+    c.skeleton_is_of_the_program.ensures.own_variables c.skeleton_is_of_the_program.ensures.few in
+    let is = subst (λ (Q : NamedProgram). node_term Q.skeleton.nodes head ≡ (clause_at Q.program clause).head) (sym c.requires.program)
+    c.head-head.ensures.term in
+    let pairs = argument_pairs P base (arguments_at P.skeleton node) (arguments_at P.skeleton head) in
+    no_candidate P row facts.skeleton.0 base node head clause is c.requires.of
+    (subst (λ (rs : List Ref). ArePartedBy P row rs pairs) c.requires.nothing_given (c.arguments_meet.ensures.apart e))

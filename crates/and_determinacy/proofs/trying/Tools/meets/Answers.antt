@@ -11,7 +11,8 @@ use Rattle.and_program.specs.Items.{node_item}
 use Rattle.and_guards.specs.Guards.{GuardCanBeRead}
 use Rattle.and_determinacy.specs.Watching.{HaveWhatWasSet, StaysWhile}
 use Rattle.and_guards.proofs.Nodes.{loaded_is}
-use Rattle.and_determinacy.proofs.Prepared.{made_call, made_head, made_in_range, made_settled, made_whole, made_new, made_reads, no_candidate, tried, only_tried}
+use Rattle.and_determinacy.proofs.Prepared.{made_call, made_head, made_in_range, made_settled, made_whole, made_new, made_reads}
+use Rattle.and_determinacy.proofs.Prepared.{no_candidate, tried, only_tried}
 use Rattle.and_determinacy.proofs.Staying.{stays}
 use Rattle.and_determinacy.proofs.TakenBack.{nothing_set}
 use Rattle.and_determinacy.proofs.Told.{both_told}

@@ -2,6 +2,7 @@ use Rattle.std.proofs.Common.{◌≡◌, ◌≤◌, Ok, false, true, true≢fals
 use Rattle.and_cells.specs.Ranges.{NamedProgram}
 use Rattle.and_clause_index.proofs.ClauseLists.{clause_there}
 use Rattle.and_program.specs.Skeletons.{node_term}
+use Rattle.and_determinacy.specs.declared.seeing.Sight.TheVariants.{Fits, Apart}
 use Rattle.and_determinacy.proofs.trying.Trials.fits_left.Goals as goal
 
 pub is_doubled_apart-requires : goal.is_doubled_apart-requires
@@ -18,8 +19,16 @@ returns-then-is_doubled_apart-clause-fits g c = λ b e.
           c.requires.program c.requires.look has)),
     )
 
-pub returns-then-is_seen-clause-fits : goal.returns-then-is_seen-clause-fits
-returns-then-is_seen-clause-fits g c = λ b e.
+pub returns-in-Fits-clause-fits : goal.returns-in-Fits-clause-fits
+returns-in-Fits-clause-fits g c = λ b e.
     let same : true ≡ b = cc in
-    let seen : c.in_ok-is_seen.is_seen ≡ true = search rules in
-    ((λ is. c.in_ok-is_seen.ensures.fits (ap (λ x. Ok x) seen)), (λ has. sym same))
+    let seen : c.in_ok-seen.seen ≡ Fits = search rules in
+    ((λ is. c.in_ok-seen.ensures.fits (ap (λ x. Ok x) seen)), (λ has. sym same))
+
+pub returns-in-Apart-clause-fits : goal.returns-in-Apart-clause-fits
+returns-in-Apart-clause-fits g c = λ b e.
+    let same : false ≡ b = cc in
+    let seen : c.in_ok-seen.seen ≡ Apart = search rules in (
+      (λ is. absurd (true≢false (sym is ∙ sym same))),
+      (λ has. absurd (c.in_ok-seen.ensures.apart (ap (λ x. Ok x) seen) has)),
+    )
