@@ -1,0 +1,5 @@
+pub mod NewFrames
+pub mod Taking
+pub mod Beginning
+pub mod Running
+pub mod KeptGoals
