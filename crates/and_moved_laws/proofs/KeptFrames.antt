@@ -20,7 +20,8 @@ use Rattle.and_branch_laws.specs.OwnVariables.{OwnVariables}
 use Rattle.and_branch_laws.proofs.Naming.{variables_fit}
 use Rattle.and_branch_laws.proofs.Owning.{term_speaks}
 use Rattle.and_moved_laws.specs.Parts.{IsPartOf, IsGoalOfPart, goal_moved}
-use Rattle.and_moved_laws.specs.KeptFrames.{Fill, frame_of_goal, IsInFrame, NamesFrame, NamesFrames, Names, IsKept, of_query, of_goal, of_word, AreKept, AreEnough}
+use Rattle.and_moved_laws.specs.KeptFrames.{Fill, frame_of_goal, IsInFrame, NamesFrame, NamesFrames, Names}
+use Rattle.and_moved_laws.specs.KeptFrames.{IsKept, of_query, of_goal, of_word, AreKept, AreEnough}
 use Rattle.and_moved_laws.specs.KeptFrames.{raised, lowered, frame_lowered, side_by_side, MovesWhole, frame_moved}
 use Rattle.and_moved_laws.proofs.Moving.{no_lower, within_part, same_half}
 use Rattle.and_moved_laws.proofs.Lowering.{LieFrom, LiesInside, IsFound, found, lower_is_part, lower_fill, frame_whole, frame_back, lower_names}
